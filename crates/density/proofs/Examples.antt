@@ -1,0 +1,93 @@
+-- The starred lists, the nine sites and the refused plans: what the computed tests say. The groups of a starred list are found twice, by the
+-- definition run over every set and by the rows on its plan. Assumes nothing.
+use mathlib.Core.Path.{_≡_, refl, sym, _∙_}
+use mathlib.Core.List.{List, [], _∷_}
+use mathlib.Core.Option.{Option, none, some}
+use Prim.Native.Nat.{ℕ, _<_, _^_}
+use lib.Dec.{T, eqb, ltb, eqb→eq, ltb→lt, lit≤}
+use lib.ListN.{length, getD}
+use Rattle.sets.specs.Sum.{all}
+use Rattle.sets.specs.Set.{∅, _⊆_}
+use Rattle.density.specs.Network.{network, Valid, litres, size}
+use Rattle.density.specs.Groups.{groupsFrom}
+use Rattle.density.specs.Plan.{group, before, groupSize, groupLitres, Formed, TruePlan}
+use Rattle.density.specs.Rows.{firstRow, planRows}
+use Rattle.density.specs.Examples.{Example, noSites, starred, Grouped, Known, nineSites, refused, noRefusal, GetsRow}
+use Rattle.sets.proofs.Test.{and-l, and-r}
+use Rattle.sets.proofs.Sum.{all-at}
+use Rattle.sets.proofs.Set.{subset-of}
+use Rattle.density.proofs.Cases.{same, grouped, isNone, passes, hasRow, getsRow, computed-groups, computed-nine, computed-plans, computed-refusals}
+use Rattle.density.proofs.Lists.{valid}
+use Rattle.density.proofs.Checks.{no-row}
+use Rattle.density.proofs.Existence.{run-is}
+
+same→ : (xs ys : List ℕ) → T (same xs ys) → xs ≡ ys
+unfolding same
+same→ [] [] t = refl
+same→ [] (y ∷ ys) t = absurd t
+same→ (x ∷ xs) [] t = absurd t
+same→ (x ∷ xs) (y ∷ ys) t = cc (eqb→eq x y (and-l (eqb x y) (same xs ys) t), same→ xs ys (and-r (eqb x y) (same xs ys) t))
+
+grouped-valid : (e : Example) → T (grouped e) → Valid (network (e .list))
+unfolding grouped
+grouped-valid e t = valid (e .list) (search (and-l, and-r))
+
+-- a figure of each group
+figures : (f : ℕ → ℕ) (xs : List ℕ) (n : ℕ) → T (all (λ k. eqb (f k) (getD xs k 0)) n) → (k : ℕ) → k < n → f k ≡ getD xs k 0
+figures f xs n t k l = eqb→eq (f k) (getD xs k 0) (all-at (λ k. eqb (f k) (getD xs k 0)) n t k l)
+
+grouped→ : (e : Example) → T (grouped e) → Grouped e
+unfolding grouped
+grouped→ e t =
+    let N = network (e .list) in
+    let n = length (e .groups) in
+    let ok = grouped-valid e t in
+    let low : N .listed ⊆ (λ d. ltb d 6) = subset-of (N .listed) (λ d. ltb d 6) 64 (ok .small) (search (and-l, and-r)) in
+    record {
+      groups =
+          sym (run-is N ok 6 (lit≤ tt) (λ d u. ltb→lt d 6 (low d u)))
+          ∙ same→ (groupsFrom N 6 ∅ (size N (N .listed))) (e .groups) (search (and-l, and-r));
+      litres = figures (groupLitres N (e .groups)) (e .litres) n (search (and-l, and-r));
+      given = figures (λ k. litres N (group (e .groups) k) (before (e .groups) k)) (e .litres) n (search (and-l, and-r));
+      sizes = figures (groupSize N (e .groups)) (e .sizes) n (search (and-l, and-r));
+    }
+
+isNone→ : (o : Option ℕ) → T (isNone o) → o ≡ none
+unfolding isNone
+isNone→ none t = refl
+isNone→ (some n) t = absurd t
+
+passes→ : (e : Example) → Valid (network (e .list)) → T (passes e) → TruePlan (network (e .list)) (e .groups) (e .shares)
+unfolding passes network
+passes→ e ok t =
+    let form : Formed (network (e .list)) (e .groups) (e .shares) =
+    record {
+      sets = λ k l. ltb→lt _ _ (all-at (λ k. ltb (getD (e .groups) k 0) (2 ^ 64)) _ (search (and-l, and-r)) k l);
+      each = eqb→eq _ _ (search (and-l, and-r));
+    } in
+    no-row (network (e .list)) (e .groups) (e .shares) ok form .0
+    (isNone→ (firstRow (planRows (network (e .list)) (e .groups) (e .shares))) (search (and-l, and-r)))
+
+-- every starred list: its groups, W and q are those of the definition, and its plan is true
+pub starred-known : (k : ℕ) → k < length starred → Known (getD starred k noSites)
+starred-known k l =
+    let e = getD starred k noSites in
+    let t = all-at (λ k. grouped (getD starred k noSites)) (length starred) computed-groups k l in
+    record {
+      grouped = grouped→ e t;
+      plan = passes→ e (grouped-valid e t) (all-at (λ k. passes (getD starred k noSites)) (length starred) computed-plans k l);
+    }
+
+-- the nine sites: not the innermost core {0,1,2,3}, which has 1.5 litres per depot, but {0,1,2,3,4} with 1.6
+pub nine-grouped : Grouped nineSites
+nine-grouped = grouped→ nineSites computed-nine
+
+hasRow→ : (o : Option ℕ) (n : ℕ) → T (hasRow o n) → o ≡ some n
+unfolding hasRow
+hasRow→ none n t = absurd t
+hasRow→ (some m) n t = cc (eqb→eq m n t)
+
+-- every refused plan gets its row
+pub refused-row : (k : ℕ) → k < length refused → GetsRow (getD refused k noRefusal)
+unfolding getsRow
+refused-row k l = hasRow→ _ _ (all-at (λ k. getsRow (getD refused k noRefusal)) (length refused) computed-refusals k l)

@@ -1,0 +1,15 @@
+pub mod Cases
+pub mod Litres
+pub mod Next
+pub mod Sound
+pub mod Level
+pub mod Places
+pub mod Plans
+pub mod Totals
+pub mod Unique
+pub mod Existence
+pub mod Rows
+pub mod Checks
+pub mod Lists
+pub mod Figures
+pub mod Examples

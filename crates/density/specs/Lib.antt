@@ -1,0 +1,6 @@
+pub mod Network
+pub mod Groups
+pub mod Plan
+pub mod Rows
+pub mod Figures
+pub mod Examples

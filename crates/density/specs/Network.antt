@@ -1,0 +1,69 @@
+-- Document 01, "Depots, sites, groups": lists, the graph of a list, and the litres and the size of a set of depots.
+use mathlib.Core.Bool.{Bool, _&&_, _||_}
+use mathlib.Core.List.{List}
+use Prim.Native.Nat.{ℕ, _<_}
+use lib.Dec.{T, eqb, ltb}
+use lib.ListN.{length, getD}
+use Rattle.sets.specs.Sum.{when, sum, all, any}
+use Rattle.sets.specs.Set.{Depots, _∪_, weigh}
+use Rattle.density.specs.declared.Site.{Site}
+
+-- A list: its sites, counted from 0.
+pub record Listing : Type 0 where
+  pub sites : List Site
+
+-- The graph: its vertices are the listed depots, its edges the sites. Each depot has crews, here one.
+pub record Network : Type 0 where
+  pub count : ℕ
+  pub site : ℕ → Site
+  pub listed : Depots
+  pub crews : ℕ → ℕ
+
+-- what stands where a list has no site
+abbrev pub noSite : Site
+noSite = record { first = 0; second = 0; litres = 0 }
+
+abbrev pub siteAt : Listing → ℕ → Site
+siteAt l i = getD (l .sites) i noSite
+
+abbrev pub names : Site → Depots
+names s d = eqb (s .first) d || eqb (s .second) d
+
+-- "A depot is listed if some site names it."
+unfoldable pub network : Listing → Network
+network l =
+    record {
+      count = length (l .sites);
+      site = siteAt l;
+      listed = λ d. any (λ i. names (siteAt l i) d) (length (l .sites));
+      crews = λ d. 1;
+    }
+
+-- "A depot is a number from 0 to 63": so are the depots that the sites name.
+unfoldable pub depotsInRange : Listing → Bool
+depotsInRange l = all (λ i. ltb (siteAt l i .first) 64 && ltb (siteAt l i .second) 64) (length (l .sites))
+
+-- What the theorems ask of a network; that of a list has it where its depots are in range (`valid`).
+pub record Valid (N : Network) : Type 0 where
+  pub first-listed : (i : ℕ) → i < N .count → T (N .listed (N .site i .first))
+  pub second-listed : (i : ℕ) → i < N .count → T (N .listed (N .site i .second))
+  pub small : (d : ℕ) → T (N .listed d) → d < 64
+  pub crewed : (d : ℕ) → T (N .listed d) → 0 < N .crews d
+
+abbrev pub touches : Depots → Site → Bool
+touches X s = X (s .first) || X (s .second)
+
+abbrev pub within : Depots → Site → Bool
+within X s = X (s .first) && X (s .second)
+
+-- "sites that touch the set and whose depots all lie in the set or among the grouped ones"
+abbrev pub counts : Depots → Depots → Site → Bool
+counts X G s = within (X ∪ G) s && touches X s
+
+-- "The litres of a set, given the depots already grouped, are those of all" such sites. "A site counts once."
+unfoldable pub litres : Network → Depots → Depots → ℕ
+litres N X G = sum (λ i. when (counts X G (N .site i)) (N .site i .litres)) (N .count)
+
+-- The size of a set: its crews added up, which with one crew each is the number of its depots.
+unfoldable pub size : Network → Depots → ℕ
+size N X = weigh (N .crews) X 64
