@@ -1,5 +1,5 @@
 -- The definition and the rows run on the examples: tests that are computed over the tables, from the definitions alone. Assumes nothing.
-use mathlib.Core.Bool.{Bool, true, false, not, _&&_}
+use mathlib.Core.Bool.{Bool, true, false, _&&_}
 use mathlib.Core.List.{List, [], _∷_}
 use mathlib.Core.Option.{Option, none, some}
 use Prim.Native.Nat.{ℕ, _^_}
@@ -20,12 +20,12 @@ same [] (y ∷ ys) = false
 same (x ∷ xs) [] = false
 same (x ∷ xs) (y ∷ ys) = eqb x y && same xs ys
 
--- the depots are below 6, and the definition, run over the 64 sets of such depots, gives the groups
-unfoldable pub grouped : Example → Bool
-grouped e =
+-- the depots are below w, and the definition, run over every set of such depots, gives the groups
+unfoldable pub grouped : ℕ → Example → Bool
+grouped w e =
     depotsInRange (e .list)
-    && isEmpty (network (e .list) .listed ∖ (λ d. ltb d 6)) 64
-    && same (groupsFrom (network (e .list)) 6 ∅ (size (network (e .list)) (network (e .list) .listed))) (e .groups)
+    && isEmpty (network (e .list) .listed ∖ (λ d. ltb d w)) 64
+    && same (groupsFrom (network (e .list)) w ∅ (size (network (e .list)) (network (e .list) .listed))) (e .groups)
     && all (λ k. eqb (groupLitres (network (e .list)) (e .groups) k) (getD (e .litres) k 0)) (length (e .groups))
     && all (λ k. eqb (litres (network (e .list)) (group (e .groups) k) (before (e .groups) k)) (getD (e .litres) k 0)) (length (e .groups))
     && all (λ k. eqb (groupSize (network (e .list)) (e .groups) k) (getD (e .sizes) k 0)) (length (e .groups))
@@ -51,11 +51,11 @@ getsRow r = hasRow (firstRow (planRows (network (r .list)) (r .groups) (r .share
 
 -- ---- computed over the tables
 
-pub computed-groups : T (all (λ k. grouped (getD starred k noSites)) (length starred))
+pub computed-groups : T (all (λ k. grouped 3 (getD starred k noSites)) (length starred))
 unfolding grouped same starred sum all any has weigh size network depotsInRange litres exceeds best nextGroup groupsFrom place union carrier groupSize groupLitres
 computed-groups = tt
 
-pub computed-nine : T (grouped nineSites)
+pub computed-nine : T (grouped 6 nineSites)
 unfolding grouped same nineSites sum all any has weigh size network depotsInRange litres exceeds best nextGroup groupsFrom place union carrier groupSize groupLitres
 computed-nine = tt
 

@@ -1,20 +1,20 @@
 -- Rows 12 to 16 do not apply exactly if the plan is true, over every set of depots. Assumes nothing.
-use mathlib.Core.Path.{_≡_, refl, sym, ap, _∙_, subst}
+use mathlib.Core.Path.{_≡_, refl, sym, _∙_, subst}
 use mathlib.Core.Logic.{_↔_, ⊎-elim}
 use mathlib.Core.Bool.{Bool, true, false, not, _&&_, _||_, Bool·beq}
 use mathlib.Core.List.{List}
 use mathlib.Core.Option.{none}
-use Prim.Native.Nat.{ℕ, suc, _-_, _*_, _<_, _≤_}
-use native.Mathlib.Nat.{le-of-lt, lt-of-not-le, lt-irrefl, lt-of-lt-of-le}
+use Prim.Native.Nat.{ℕ, _-_, _<_}
+use native.Mathlib.Nat.{lt-of-not-le, lt-irrefl, lt-of-lt-of-le}
 use native.Mathlib.Omega.{arith}
 use lib.Dec.{T, T-not, not-T, eqb, leb, ltb, eqb→eq, leb→le, le→leb, ltb→lt, lt→ltb, nltb→le}
-use lib.ListN.{length, getD}
+use lib.ListN.{length}
 use Rattle.sets.specs.Sum.{any}
 use Rattle.sets.specs.Set.{_∩_, isEmpty}
 use Rattle.density.specs.Network.{Network, Valid}
 use Rattle.density.specs.Plan.{union, group, before, place, carrier, whole, firstShare, secondShare, Rules, load, target, Shared, Formed, TruePlan}
 use Rattle.density.specs.Rows.{firstRow, groupsMeet, groupsUnlisted, shareBroken, sharesBroken, scaledLoad, loadsUneven, groupsRise, planRows}
-use Rattle.sets.proofs.Test.{or-l, or-r, or-cases, and-i, and-l, and-r, T?, T-ext, eq→eqb}
+use Rattle.sets.proofs.Test.{or-l, or-r, or-cases, and-i, and-l, and-r, T-ext, eq→eqb}
 use Rattle.sets.proofs.Sum.{any-at, any-from}
 use Rattle.sets.proofs.Member.{member-lt}
 use Rattle.sets.proofs.Set.{empty→, →disjoint}

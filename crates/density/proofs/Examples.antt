@@ -3,7 +3,7 @@
 use mathlib.Core.Path.{_≡_, refl, sym, _∙_}
 use mathlib.Core.List.{List, [], _∷_}
 use mathlib.Core.Option.{Option, none, some}
-use Prim.Native.Nat.{ℕ, _<_, _^_}
+use Prim.Native.Nat.{ℕ, _≤_, _<_, _^_}
 use lib.Dec.{T, eqb, ltb, eqb→eq, ltb→lt, lit≤}
 use lib.ListN.{length, getD}
 use Rattle.sets.specs.Sum.{all}
@@ -28,25 +28,25 @@ same→ [] (y ∷ ys) t = absurd t
 same→ (x ∷ xs) [] t = absurd t
 same→ (x ∷ xs) (y ∷ ys) t = cc (eqb→eq x y (and-l (eqb x y) (same xs ys) t), same→ xs ys (and-r (eqb x y) (same xs ys) t))
 
-grouped-valid : (e : Example) → T (grouped e) → Valid (network (e .list))
+grouped-valid : (w : ℕ) (e : Example) → T (grouped w e) → Valid (network (e .list))
 unfolding grouped
-grouped-valid e t = valid (e .list) (search (and-l, and-r))
+grouped-valid w e t = valid (e .list) (search (and-l, and-r))
 
 -- a figure of each group
 figures : (f : ℕ → ℕ) (xs : List ℕ) (n : ℕ) → T (all (λ k. eqb (f k) (getD xs k 0)) n) → (k : ℕ) → k < n → f k ≡ getD xs k 0
 figures f xs n t k l = eqb→eq (f k) (getD xs k 0) (all-at (λ k. eqb (f k) (getD xs k 0)) n t k l)
 
-grouped→ : (e : Example) → T (grouped e) → Grouped e
+grouped→ : (w : ℕ) → w ≤ 64 → (e : Example) → T (grouped w e) → Grouped e
 unfolding grouped
-grouped→ e t =
+grouped→ w wide e t =
     let N = network (e .list) in
     let n = length (e .groups) in
-    let ok = grouped-valid e t in
-    let low : N .listed ⊆ (λ d. ltb d 6) = subset-of (N .listed) (λ d. ltb d 6) 64 (ok .small) (search (and-l, and-r)) in
+    let ok = grouped-valid w e t in
+    let low : N .listed ⊆ (λ d. ltb d w) = subset-of (N .listed) (λ d. ltb d w) 64 (ok .small) (search (and-l, and-r)) in
     record {
       groups =
-          sym (run-is N ok 6 (lit≤ tt) (λ d u. ltb→lt d 6 (low d u)))
-          ∙ same→ (groupsFrom N 6 ∅ (size N (N .listed))) (e .groups) (search (and-l, and-r));
+          sym (run-is N ok w wide (λ d u. ltb→lt d w (low d u)))
+          ∙ same→ (groupsFrom N w ∅ (size N (N .listed))) (e .groups) (search (and-l, and-r));
       litres = figures (groupLitres N (e .groups)) (e .litres) n (search (and-l, and-r));
       given = figures (λ k. litres N (group (e .groups) k) (before (e .groups) k)) (e .litres) n (search (and-l, and-r));
       sizes = figures (groupSize N (e .groups)) (e .sizes) n (search (and-l, and-r));
@@ -72,15 +72,15 @@ passes→ e ok t =
 pub starred-known : (k : ℕ) → k < length starred → Known (getD starred k noSites)
 starred-known k l =
     let e = getD starred k noSites in
-    let t = all-at (λ k. grouped (getD starred k noSites)) (length starred) computed-groups k l in
+    let t = all-at (λ k. grouped 3 (getD starred k noSites)) (length starred) computed-groups k l in
     record {
-      grouped = grouped→ e t;
-      plan = passes→ e (grouped-valid e t) (all-at (λ k. passes (getD starred k noSites)) (length starred) computed-plans k l);
+      grouped = grouped→ 3 (lit≤ tt) e t;
+      plan = passes→ e (grouped-valid 3 e t) (all-at (λ k. passes (getD starred k noSites)) (length starred) computed-plans k l);
     }
 
 -- the nine sites: not the innermost core {0,1,2,3}, which has 1.5 litres per depot, but {0,1,2,3,4} with 1.6
 pub nine-grouped : Grouped nineSites
-nine-grouped = grouped→ nineSites computed-nine
+nine-grouped = grouped→ 6 (lit≤ tt) nineSites computed-nine
 
 hasRow→ : (o : Option ℕ) (n : ℕ) → T (hasRow o n) → o ≡ some n
 unfolding hasRow

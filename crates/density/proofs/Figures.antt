@@ -1,10 +1,9 @@
 -- The figures of the definition: W, q and w × q of a plan with its groups are functions of the network, and what holds of them. Assumes nothing.
-use mathlib.Core.Path.{_≡_, refl, sym, ap, ap₂, _∙_}
-use mathlib.Core.Bool.{Bool, true, false}
+use mathlib.Core.Path.{_≡_, sym, ap, ap₂, _∙_}
 use mathlib.Core.List.{List}
 use Prim.Native.Nat.{ℕ, zero, suc, _-_, _*_, _<_, _≤_}
 use native.Mathlib.Nat.{mul-comm, not-suc-le-zero}
-use lib.Dec.{T, ltb, lt→ltb}
+use lib.Dec.{ltb, lt→ltb}
 use lib.IntN.{ℤ, pos, negsuc, negℤ, _-ℤ_, _+ℤ_, +ℤ-invr, +ℤ-comm, negℤ-+ℤ, negℤ-negℤ}
 use lib.ListN.{length}
 use Rattle.sets.specs.Sum.{sum}
@@ -15,7 +14,7 @@ use Rattle.density.specs.Figures.{depotLitres, depotSize, siteWhole, dif
 use Rattle.sets.proofs.Test.{cond-on}
 use Rattle.density.proofs.Plans.{complete}
 use Rattle.density.proofs.Totals.{total, few-groups}
-use Rattle.density.proofs.Existence.{computed, decomposition-is}
+use Rattle.density.proofs.Existence.{decomposition-is}
 
 module _ (N : Network) (ok : Valid N) (gs : List ℕ) (h : Decomposition N gs) where
   pub depot-litres : (d : ℕ) → groupLitres N gs (place gs d) ≡ depotLitres N d

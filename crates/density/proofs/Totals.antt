@@ -10,13 +10,14 @@ use lib.Arith.{lt-of-le-ne}
 use lib.Dec.{T, eqb, ltb, eqb→eq, ltb→lt, lt→ltb}
 use lib.ListN.{length}
 use Rattle.sets.specs.Sum.{when, sum, all}
-use Rattle.sets.specs.Set.{Depots, weigh}
+use Rattle.sets.specs.Set.{Depots}
 use Rattle.density.specs.Network.{Network, Valid, litres, size}
 use Rattle.density.specs.declared.Site.{Site}
 use Rattle.density.specs.Plan.{union, group, place, carrier, groupLitres, firstShare, secondShare, Rules, shareOf, load}
 use Rattle.density.specs.Rows.{scaledLoad}
 use Rattle.sets.proofs.Test.{T?, eq→eqb, when-on, when-off, when-≤, when-mono}
 use Rattle.sets.proofs.Sum.{sum-cong, sum-mono, sum-zero, sum-swap, sum-pick, sum-const, sum-≤, sum-term}
+use Rattle.sets.proofs.Weigh.{weigh-le}
 use Rattle.density.proofs.Level.{end}
 use Rattle.density.proofs.Plans.{shares, earlier, Falling, union→, →union, group-place}
 
@@ -95,7 +96,7 @@ few-groups N ok gs f =
 
 -- bounds for the machine: a set's size, and the litres that a group carries
 pub size-≤ : (N : Network) (X : Depots) (c : ℕ) → ((d : ℕ) → N .crews d ≤ c) → size N X ≤ 64 * c
-unfolding size weigh
+unfolding size
 size-≤ N X c h = weigh-le (N .crews) X 64 c (λ d l. h d)
 
 pub group-litres-≤ : (N : Network) (gs : List ℕ) (k w : ℕ) → ((i : ℕ) → i < N .count → N .site i .litres ≤ w) → groupLitres N gs k ≤ N .count * w
