@@ -13,3 +13,4 @@ pub mod Checks
 pub mod Lists
 pub mod Figures
 pub mod Examples
+pub mod Agree
