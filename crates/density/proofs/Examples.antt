@@ -52,7 +52,7 @@ grouped→ w wide e t =
       sizes = figures (groupSize N (e .groups)) (e .sizes) n (search (and-l, and-r));
     }
 
-isNone→ : (o : Option ℕ) → T (isNone o) → o ≡ none
+pub isNone→ : (o : Option ℕ) → T (isNone o) → o ≡ none
 unfolding isNone
 isNone→ none t = refl
 isNone→ (some n) t = absurd t

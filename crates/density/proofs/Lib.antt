@@ -12,5 +12,7 @@ pub mod Rows
 pub mod Checks
 pub mod Lists
 pub mod Figures
-pub mod Examples
 pub mod Agree
+pub mod Examples
+pub mod Split
+pub mod Made

@@ -1,0 +1,57 @@
+-- The starred lists as bytes: Check passes each list's plan. Assumes nothing.
+use mathlib.Core.Path.{_≡_, refl}
+use mathlib.Core.List.{List, [], _∷_, flatMap}
+use mathlib.Core.Option.{none}
+use Prim.Native.Nat.{ℕ, _<_}
+use lib.Dec.{T}
+use lib.ListN.{length, getD}
+use Rattle.sets.specs.Sum.{sum, all, any}
+use Rattle.sets.specs.Set.{has, weigh}
+use Rattle.sets.proofs.Sum.{all-at}
+use Rattle.density.specs.Network.{network, size}
+use Rattle.density.specs.Plan.{union, place, carrier, groupSize, groupLitres, whole, firstShare, secondShare, shareOf, target}
+use Rattle.density.specs.Rows.{firstRow, groupsMeet, groupsUnlisted, shareBroken, sharesBroken, scaledLoad, loadsUneven, groupsRise, planRows}
+use Rattle.density.specs.Examples.{Example, noSites, starred}
+use Rattle.density.proofs.Cases.{isNone}
+use Rattle.density.proofs.Examples.{isNone→}
+use Rattle.records.specs.Bytes.{le, value}
+use Rattle.records.specs.Record.{records}
+use Rattle.records.specs.Format.{edition1, readList, readPlan}
+use Rattle.records.specs.Write.{listBytes, planBytes}
+use Rattle.judge.specs.Check.{checkRow}
+
+-- an example's list and plan as bytes
+abbrev pub listOf : Example → List ℕ
+listOf e = listBytes edition1 (e .list)
+
+abbrev pub planOf : Example → List ℕ
+planOf e = planBytes edition1 (record { groups = e .groups; shares = e .shares })
+
+computed : T (all (λ k. isNone (checkRow edition1 (listOf (getD starred k noSites)) (planOf (getD starred k noSites)))) (length starred))
+unfolding isNone starred checkRow readList readPlan listBytes planBytes flatMap le value records sum all any has weigh size network firstRow planRows groupsMeet groupsUnlisted sharesBroken shareBroken loadsUneven scaledLoad shareOf target groupsRise place union carrier groupSize groupLitres whole firstShare secondShare
+computed = tt
+
+-- each starred list's plan passes
+pub starred-passes : (k : ℕ) → k < length starred → checkRow edition1 (listOf (getD starred k noSites)) (planOf (getD starred k noSites)) ≡ none
+starred-passes k l = isNone→ _ (all-at (λ k. isNone (checkRow edition1 (listOf (getD starred k noSites)) (planOf (getD starred k noSites)))) (length starred) computed k l)
+
+-- "No sites: no groups; plan 50 4C 00 00 00 passes."
+pub no-sites-passes : checkRow edition1 (0x4C ∷ 0x53 ∷ 0 ∷ 0 ∷ []) (0x50 ∷ 0x4C ∷ 0 ∷ 0 ∷ 0 ∷ []) ≡ none
+unfolding checkRow readList readPlan value records sum all any has weigh size network firstRow planRows groupsMeet groupsUnlisted sharesBroken shareBroken loadsUneven scaledLoad shareOf target groupsRise place union carrier groupSize groupLitres whole firstShare secondShare
+no-sites-passes = refl
+
+-- "T is the list 4C 53 01 00 53 54 00 01 0A 00. Its plan is 50 4C 01 01 00 47 52 03 00 00 00 00 00 00 00 53 48 0A 00 00 00."
+abbrev pub listT : List ℕ
+listT = 0x4C ∷ 0x53 ∷ 1 ∷ 0 ∷ 0x53 ∷ 0x54 ∷ 0 ∷ 1 ∷ 0x0A ∷ 0 ∷ []
+
+abbrev pub planT : List ℕ
+planT =
+    0x50 ∷ 0x4C ∷ 1 ∷ 1 ∷ 0 ∷ 0x47 ∷ 0x52 ∷ 3 ∷ 0 ∷ 0 ∷ 0 ∷ 0 ∷ 0 ∷ 0 ∷ 0 ∷ 0x53 ∷ 0x48 ∷ 0x0A ∷ 0 ∷ 0 ∷ 0 ∷ []
+
+pub T-passes : checkRow edition1 listT planT ≡ none
+unfolding checkRow readList readPlan value records sum all any has weigh size network firstRow planRows groupsMeet groupsUnlisted sharesBroken shareBroken loadsUneven scaledLoad shareOf target groupsRise place union carrier groupSize groupLitres whole firstShare secondShare
+T-passes = refl
+
+pub T-is : (listOf (getD starred 1 noSites) ≡ listT) × (planOf (getD starred 1 noSites) ≡ planT)
+unfolding starred listBytes planBytes flatMap le
+T-is = (refl, refl)

@@ -1,0 +1,46 @@
+// Check: a plan, as bytes, judged against a list.
+use records::Edition;
+use records::Read;
+use verify::Verdict;
+ghost use mathlib.Core.Path.{_≡_};
+ghost use Prim.Native.Nat.{_≤_};
+ghost use Rattle.records.specs.Format.{edition1};
+ghost use Rattle.verify.specs.Verdict.{verdict};
+ghost use Rattle.judge.specs.Check.{checkRow, handedOn};
+
+// A reader's refusal, handed on.
+fn handed_on(answer: Read) -> Verdict
+    ensures { λ r. ⌜ r ≡ handedOn answer ⌝ }
+{
+    match answer {
+        Read::Refused(n) => Verdict::Refused(n),
+        Read::Count(_) => Verdict::Passes,
+    }
+}
+
+// Check, of an edition.
+pub fn check_by(e: Edition, list: &[u8], plan: &[u8]) -> Verdict
+    requires { ⌜ (e .litres ≤ 4) × (e .share ≤ 8) ⌝ }
+    ensures { λ r. ⌜ r ≡ verdict (checkRow e (now (list .entry)) (now (plan .entry))) ⌝ }
+{
+    let l = records::list::read(e, 512, list);
+    let listed = l.answer;
+    let Read::Count(n) = listed else {
+        return handed_on(listed);
+    };
+    let p = records::plan::read(e, n, plan);
+    let laid = p.answer;
+    let Read::Count(_) = laid else {
+        return handed_on(laid);
+    };
+    let sites = l.list;
+    let shares = p.plan;
+    verify::plan_row(sites, shares)
+}
+
+// Check: a list and a plan. Where the list is refused, the plan is not read.
+pub fn check(list: &[u8], plan: &[u8]) -> Verdict
+    ensures { λ r. ⌜ r ≡ verdict (checkRow edition1 (now (list .entry)) (now (plan .entry))) ⌝ }
+{
+    check_by(records::edition1(), list, plan)
+}

@@ -1,0 +1,360 @@
+-- A list and a plan that were written are read back, and what was read is written again, byte for byte, over the edition; what passed says. Assumes nothing.
+use Prim.Native.Nat.{ℕ, _+_, _*_, _<_, _≤_, _^_}
+use mathlib.Core.Bool.{false, not, _&&_}
+use mathlib.Core.List.{List, _++_, flatMap, map}
+use mathlib.Core.Path.{_≡_, refl, ap, sym, _∙_}
+use borrow.Author.Tests.{lt-ltb, eq-eqb, ne-eqb, le-ltb, eqb-true, ltb-false, eqb-false, not-false}
+use lib.Dec.{T, ltb}
+use lib.ListN.{length, drop, length-drop, length-map}
+use lib.Seq.{drop-at, drop-drop}
+use native.Mathlib.Omega.{arith}
+use Rattle.density.specs.declared.Site.{Site}
+use Rattle.density.specs.Network.{Listing, noSite, siteAt, depotsInRange}
+use Rattle.sets.proofs.Test.{and-i, passes}
+use Rattle.sets.proofs.Sum.{all-from as each-from}
+use Rattle.records.specs.declared.Edition.{Edition}
+use Rattle.records.specs.Values.{Plan}
+use Rattle.records.specs.Bytes.{Bytes, le, field}
+use Rattle.records.specs.Record.{records, anyOf, wrongMark}
+use Rattle.records.specs.Outcome.{passed}
+use Rattle.records.specs.Format.{siteSize, siteCount, siteRecords, sitesOf, siteOf, wrongDepot, noLitres, listRows, readList, groupCount, groupRecords, shareRecords, shareSize, bodyOf, planOf, layoutRows, readPlan}
+use Rattle.records.specs.Write.{siteBytes, listBytes, markBytes, planBytes, LaidOut}
+use Rattle.records.proofs.Bytes.{length-le, bytes-drop, field-small}
+use Rattle.records.proofs.Records.{All, all-from, all-at, all-map, all-both, none-of, length-records}
+use Rattle.records.proofs.Buffers.{length-flat, length-mark, length-plan, length-site, length-list}
+use Rattle.records.proofs.Outcomes.{pass, clear, or-false}
+use Rattle.records.proofs.Codec.{field-here, field-last, field-behind, le-field, le-field-last, records-flat, records-flat-last, flat-records, flat-records-last, bytes-records, any-map, map-back}
+
+-- the marks have two bytes
+pub record Marked (e : Edition) : Type 0 where
+  pub list : e .mark .list < 65536
+  pub site : e .mark .site < 65536
+  pub plan : e .mark .plan < 65536
+  pub group : e .mark .group < 65536
+  pub share : e .mark .share < 65536
+
+-- a site that rows 5 and 6 do not refuse
+pub record Allowed (x : Site) : Type 0 where
+  pub first : x .first ≤ 63
+  pub second : x .second ≤ 63
+  pub some : 0 < x .litres
+
+-- and whose litres have the edition's width
+pub record Good (e : Edition) (x : Site) : Type 0 where
+  pub allowed : Allowed x
+  pub fits : x .litres < 256 ^ e .litres
+
+module _ (e : Edition) (m : Marked e) where
+  -- the fields of a site's record
+  site-mark : (x : Site) → field (siteBytes e x) 0 2 ≡ e .mark .site
+  site-mark x = field-here 2 (e .mark .site) _ (m .site)
+
+  site-first : (x : Site) → Good e x → field (siteBytes e x) 2 1 ≡ x .first
+  site-first x g = field-behind (le 2 (e .mark .site)) _ 2 0 1 (length-le 2 (e .mark .site)) ∙ field-here 1 (x .first) _ (omega (arith, g .allowed .first))
+
+  site-second : (x : Site) → Good e x → field (siteBytes e x) 3 1 ≡ x .second
+  site-second x g =
+      field-behind (le 2 (e .mark .site)) _ 2 1 1 (length-le 2 (e .mark .site))
+      ∙ field-behind (le 1 (x .first)) _ 1 0 1 (length-le 1 (x .first))
+      ∙ field-here 1 (x .second) _ (omega (arith, g .allowed .second))
+
+  site-litres : (x : Site) → Good e x → field (siteBytes e x) 4 (e .litres) ≡ x .litres
+  site-litres x g =
+      field-behind (le 2 (e .mark .site)) _ 2 2 (e .litres) (length-le 2 (e .mark .site))
+      ∙ field-behind (le 1 (x .first)) _ 1 1 (e .litres) (length-le 1 (x .first))
+      ∙ field-behind (le 1 (x .second)) _ 1 0 (e .litres) (length-le 1 (x .second))
+      ∙ field-last (e .litres) (x .litres) (g .fits)
+
+  site-back : (x : Site) → Good e x → siteOf (e .litres) (siteBytes e x) ≡ x
+  site-back x g = rw (site-first x g, site-second x g, site-litres x g)
+
+  -- the parts of a list that was written
+  module _ (l : Listing) (few : length (l .sites) ≤ 512) where
+    list-mark : field (listBytes e l) 0 2 ≡ e .mark .list
+    unfolding listBytes
+    list-mark = field-here 2 (e .mark .list) _ (m .list)
+
+    list-count : siteCount (listBytes e l) ≡ length (l .sites)
+    unfolding listBytes
+    list-count = field-behind (le 2 (e .mark .list)) _ 2 0 2 (length-le 2 (e .mark .list)) ∙ field-here 2 (length (l .sites)) _ (omega arith)
+
+    list-records : siteRecords e (listBytes e l) ≡ map (siteBytes e) (l .sites)
+    unfolding listBytes le
+    list-records = rw list-count (records-flat-last (siteBytes e) (siteSize e) (length-site e) (l .sites))
+
+    -- a list that was written is read back
+    pub list-back : (places : ℕ) → length (l .sites) ≤ places → All (Good e) (l .sites) → readList e places (listBytes e l) ≡ passed l
+    unfolding readList
+    list-back places h good =
+        pass (listRows e places (listBytes e l)) (
+          rw (le-ltb (length (listBytes e l)) 4 (omega (arith, length-list e l)), list-mark, eq-eqb _ _ refl),
+          (
+            rw (list-count, le-ltb _ _ few, le-ltb _ _ h),
+            (
+              rw (list-count, eq-eqb _ _ (length-list e l)),
+              (
+                rw list-records (any-map (siteBytes e) (wrongMark (e .mark .site)) (Good e) (λ (x : Site) (g : Good e x). rw (site-mark x, eq-eqb _ _ refl)) (l .sites) good),
+                (
+                  rw list-records (any-map (siteBytes e) wrongDepot (Good e) (λ (x : Site) (g : Good e x). rw (site-first x g, site-second x g, le-ltb _ _ (g .allowed .first), le-ltb _ _ (g .allowed .second))) (l .sites) good),
+                  (
+                    rw list-records (any-map (siteBytes e) (noLitres (e .litres)) (Good e) (λ (x : Site) (g : Good e x). rw (site-litres x g) (ne-eqb (x .litres) 0 (omega (arith, g .allowed .some)))) (l .sites) good),
+                    tt,
+                  ),
+                ),
+              ),
+            ),
+          ),
+        )
+        ∙ ap (λ (xs : List Site). passed (record { sites = xs })) (rw list-records (map-back (siteBytes e) (siteOf (e .litres)) (Good e) site-back (l .sites) good))
+
+-- a site's record that was read is written again
+site-again : (e : Edition) (r : List ℕ) → length r ≡ siteSize e → Bytes r → wrongMark (e .mark .site) r ≡ false → siteBytes e (siteOf (e .litres) r) ≡ r
+site-again e r l b t =
+    let k : field r 0 2 ≡ e .mark .site = eqb-true _ _ (not-false _ t) in
+    rw (← k, le-field-last r 4 (e .litres) b l, le-field r 3 1 b (omega arith), le-field r 2 1 b (omega arith), le-field r 0 2 b (omega arith))
+
+-- a record that passed the tests is that of an allowed site
+site-allowed : (e : Edition) (r : List ℕ) → (wrongDepot r ≡ false) × (noLitres (e .litres) r ≡ false) → Allowed (siteOf (e .litres) r)
+site-allowed e r t =
+    let d = or-false (ltb 63 (field r 2 1)) (ltb 63 (field r 3 1)) (t .0) in
+    record { first = ltb-false _ _ (d .0); second = ltb-false _ _ (d .1); some = omega (arith, eqb-false (field r 4 (e .litres)) 0 (t .1)) }
+
+site-good : (e : Edition) (r : List ℕ) → ((wrongDepot r ≡ false) × (noLitres (e .litres) r ≡ false)) × Bytes r → Good e (siteOf (e .litres) r)
+site-good e r t = record { allowed = site-allowed e r (t .0); fits = field-small r 4 (e .litres) (t .1) }
+
+-- what a list is that was read
+pub record ListFacts (e : Edition) (places : ℕ) (s : List ℕ) (l : Listing) : Type 0 where
+  pub mark : field s 0 2 ≡ e .mark .list
+  pub few : siteCount s ≤ 512
+  pub room : siteCount s ≤ places
+  pub size : length s ≡ 4 + siteSize e * siteCount s
+  pub marks : anyOf (wrongMark (e .mark .site)) (siteRecords e s) ≡ false
+  pub depots : anyOf (wrongDepot) (siteRecords e s) ≡ false
+  pub litres : anyOf (noLitres (e .litres)) (siteRecords e s) ≡ false
+  pub sites : sitesOf e s ≡ l .sites
+  pub count : length (l .sites) ≡ siteCount s
+
+pub list-read : (e : Edition) (places : ℕ) (s : List ℕ) {l : Listing} → readList e places s ≡ passed l → ListFacts e places s l
+unfolding readList
+list-read e places s h =
+    let c = clear (listRows e places s) h in
+    let head = or-false (ltb (length s) 4) (wrongMark (e .mark .list) s) (c .0 .0) in
+    let many = or-false (ltb 512 (siteCount s)) (ltb places (siteCount s)) (c .0 .1 .0) in
+    record {
+      mark = eqb-true _ _ (not-false _ (head .1));
+      few = ltb-false _ _ (many .0);
+      room = ltb-false _ _ (many .1);
+      size = eqb-true _ _ (not-false _ (c .0 .1 .1 .0));
+      marks = c .0 .1 .1 .1 .0;
+      depots = c .0 .1 .1 .1 .1 .0;
+      litres = c .0 .1 .1 .1 .1 .1 .0;
+      sites = ap (λ (l : Listing). l .sites) (c .1);
+      count = sym (ap (λ (l : Listing). length (l .sites)) (c .1)) ∙ length-map (siteRecords e s) (siteOf (e .litres)) ∙ length-records _ _ _;
+    }
+
+-- a list that was read is written again
+pub list-again : (e : Edition) (places : ℕ) (s : List ℕ) {l : Listing} → Bytes s → readList e places s ≡ passed l → listBytes e l ≡ s
+unfolding listBytes
+list-again e places s b h =
+    let r = list-read e places s h in
+    let k = r .size in
+    let body =
+    flat-records-last (siteBytes e) (siteSize e) (siteOf (e .litres)) (wrongMark (e .mark .site)) (site-again e)
+    (siteCount s) (drop 4 s) (rw length-drop (omega arith)) (bytes-drop 4 s b) (none-of (wrongMark (e .mark .site)) (siteRecords e s) (r .marks)) in
+    rw (← (r .mark), r .count, ← (r .sites), body, le-field s 2 2 b (omega arith), le-field s 0 2 b (omega arith))
+
+-- its sites are allowed, and where it is of bytes they are good
+list-tests : (e : Edition) (places : ℕ) (s : List ℕ) {l : Listing} → readList e places s ≡ passed l
+    → All (λ (r : List ℕ). (wrongDepot r ≡ false) × (noLitres (e .litres) r ≡ false)) (siteRecords e s)
+list-tests e places s h =
+    let r = list-read e places s h in
+    let rs = siteRecords e s in
+    all-both (λ (x : List ℕ). wrongDepot x ≡ false) (λ (x : List ℕ). noLitres (e .litres) x ≡ false) rs (none-of wrongDepot rs (r .depots)) (none-of (noLitres (e .litres)) rs (r .litres))
+
+pub list-allowed : (e : Edition) (places : ℕ) (s : List ℕ) {l : Listing} → readList e places s ≡ passed l → All Allowed (l .sites)
+list-allowed e places s h =
+    rw (← (list-read e places s h .sites))
+    (all-map (siteOf (e .litres)) (λ (r : List ℕ). (wrongDepot r ≡ false) × (noLitres (e .litres) r ≡ false)) Allowed (site-allowed e) (siteRecords e s) (list-tests e places s h))
+
+pub list-good : (e : Edition) (places : ℕ) (s : List ℕ) {l : Listing} → Bytes s → readList e places s ≡ passed l → All (Good e) (l .sites)
+list-good e places s b h =
+    let rs = siteRecords e s in
+    rw (← (list-read e places s h .sites))
+    (all-map (siteOf (e .litres)) (λ (r : List ℕ). ((wrongDepot r ≡ false) × (noLitres (e .litres) r ≡ false)) × Bytes r) (Good e) (site-good e) rs
+    (all-both (λ (r : List ℕ). (wrongDepot r ≡ false) × (noLitres (e .litres) r ≡ false)) Bytes rs (list-tests e places s h)
+    (bytes-records (siteSize e) (siteCount s) (drop 4 s) (bytes-drop 4 s b))))
+
+-- what the mathematics asks of a list that was read
+pub list-depots : (e : Edition) (places : ℕ) (s : List ℕ) {l : Listing} → readList e places s ≡ passed l → T (depotsInRange l)
+unfolding depotsInRange
+list-depots e places s {l = l} h =
+    each-from (λ i. ltb (siteAt l i .first) 64 && ltb (siteAt l i .second) 64) (length (l .sites)) (λ i k.
+    let g = all-at Allowed noSite (l .sites) (list-allowed e places s h) i k in
+    and-i (ltb (siteAt l i .first) 64) (ltb (siteAt l i .second) 64)
+    (passes (ltb (siteAt l i .first) 64) (lt-ltb (siteAt l i .first) 64 (omega (arith, g .first))))
+    (passes (ltb (siteAt l i .second) 64) (lt-ltb (siteAt l i .second) 64 (omega (arith, g .second)))))
+
+pub list-few : (e : Edition) (places : ℕ) (s : List ℕ) {l : Listing} → readList e places s ≡ passed l
+    → (length (l .sites) ≤ 512) × (length (l .sites) ≤ places)
+list-few e places s h =
+    let r = list-read e places s h in
+    rw (r .count) (r .few, r .room)
+
+-- ---- records of a mark and one number
+
+module _ (mark w : ℕ) where
+  marks-pass : (xs : List ℕ) → mark < 65536 → All (λ (x : ℕ). x < 256 ^ w) xs → anyOf (wrongMark mark) (map (markBytes mark w) xs) ≡ false
+  marks-pass xs h a =
+      any-map (markBytes mark w) (wrongMark mark) (λ (x : ℕ). x < 256 ^ w) (λ (x : ℕ) (g : x < 256 ^ w). rw (field-here 2 mark (le w x) h, eq-eqb mark mark refl)) xs a
+
+  numbers-back : (xs : List ℕ) → All (λ (x : ℕ). x < 256 ^ w) xs → map (bodyOf w) (map (markBytes mark w) xs) ≡ xs
+  numbers-back xs a = map-back (markBytes mark w) (bodyOf w) (λ (x : ℕ). x < 256 ^ w) back xs a
+    where
+      back : (x : ℕ) → x < 256 ^ w → field (markBytes mark w x) 2 w ≡ x
+      back x h = field-behind (le 2 mark) (le w x) 2 0 w (length-le 2 mark) ∙ field-last w x h
+
+  mark-again : (r : List ℕ) → length r ≡ 2 + w → Bytes r → wrongMark mark r ≡ false → markBytes mark w (field r 2 w) ≡ r
+  mark-again r l b t =
+      let k : field r 0 2 ≡ mark = eqb-true _ _ (not-false _ t) in
+      rw (← k, le-field-last r 2 w b l, le-field r 0 2 b (omega arith))
+
+-- ---- plans
+
+-- the numbers of a plan have the widths of their fields
+pub record GoodPlan (e : Edition) (p : Plan) : Type 0 where
+  pub few : length (p .groups) ≤ 64
+  pub sites : length (p .shares) ≤ 512
+  pub groups : All (λ (g : ℕ). g < 256 ^ 8) (p .groups)
+  pub shares : All (λ (s : ℕ). s < 256 ^ e .share) (p .shares)
+
+module _ (e : Edition) (m : Marked e) (p : Plan) (good : GoodPlan e p) where
+  plan-mark : field (planBytes e p) 0 2 ≡ e .mark .plan
+  unfolding planBytes
+  plan-mark = field-here 2 (e .mark .plan) _ (m .plan)
+
+  plan-groups : groupCount (planBytes e p) ≡ length (p .groups)
+  unfolding planBytes
+  plan-groups =
+      field-behind (le 2 (e .mark .plan)) _ 2 0 1 (length-le 2 (e .mark .plan)) ∙ field-here 1 (length (p .groups)) _ (omega (arith, good .few))
+
+  plan-sites : field (planBytes e p) 3 2 ≡ length (p .shares)
+  unfolding planBytes
+  plan-sites =
+      field-behind (le 2 (e .mark .plan)) _ 2 1 2 (length-le 2 (e .mark .plan))
+      ∙ field-behind (le 1 (length (p .groups))) _ 1 0 2 (length-le 1 (length (p .groups)))
+      ∙ field-here 2 (length (p .shares)) _ (omega (arith, good .sites))
+
+  plan-body : drop 5 (planBytes e p)
+      ≡ flatMap (markBytes (e .mark .group) 8) (p .groups) ++ flatMap (markBytes (e .mark .share) (e .share)) (p .shares)
+  unfolding planBytes le
+  plan-body = refl
+
+  plan-group-records : groupRecords (planBytes e p) ≡ map (markBytes (e .mark .group) 8) (p .groups)
+  plan-group-records = rw (plan-groups, plan-body) (records-flat (markBytes (e .mark .group) 8) 10 (length-mark (e .mark .group) 8) (p .groups) _)
+
+  plan-share-records : shareRecords e (length (p .shares)) (planBytes e p) ≡ map (markBytes (e .mark .share) (e .share)) (p .shares)
+  plan-share-records =
+      let g : List ℕ = flatMap (markBytes (e .mark .group) 8) (p .groups) in
+      let l : length g ≡ 10 * length (p .groups) = length-flat (markBytes (e .mark .group) 8) 10 (length-mark (e .mark .group) 8) (p .groups) in
+      rw (plan-groups, ← (drop-drop (10 * length (p .groups)) 5 (planBytes e p)), plan-body, drop-at g _ _ l)
+      (records-flat-last (markBytes (e .mark .share) (e .share)) (2 + e .share) (length-mark (e .mark .share) (e .share)) (p .shares))
+
+  -- a plan that was written is read back
+  pub plan-back : readPlan e (length (p .shares)) (planBytes e p) ≡ passed p
+  unfolding readPlan
+  plan-back =
+      pass (layoutRows e (length (p .shares)) (planBytes e p)) (
+        rw (le-ltb (length (planBytes e p)) 5 (omega (arith, length-plan e p)), plan-mark, eq-eqb _ _ refl),
+        (
+          rw plan-groups (le-ltb _ _ (good .few)),
+          (
+            rw (plan-sites, eq-eqb _ _ refl),
+            (
+              rw (plan-groups, eq-eqb _ _ (length-plan e p)),
+              (
+                rw (plan-group-records, plan-share-records, marks-pass (e .mark .group) 8 (p .groups) (m .group) (good .groups)) (marks-pass (e .mark .share) (e .share) (p .shares) (m .share) (good .shares)),
+                tt,
+              ),
+            ),
+          ),
+        ),
+      )
+      ∙ ap passed
+      (rw (
+        plan-group-records,
+        plan-share-records,
+        numbers-back (e .mark .group) 8 (p .groups) (good .groups),
+        numbers-back (e .mark .share) (e .share) (p .shares) (good .shares),
+      ))
+
+-- what a plan is that was read
+pub record PlanFacts (e : Edition) (n : ℕ) (s : List ℕ) (p : Plan) : Type 0 where
+  pub mark : field s 0 2 ≡ e .mark .plan
+  pub few : groupCount s ≤ 64
+  pub sites : field s 3 2 ≡ n
+  pub size : length s ≡ 5 + 10 * groupCount s + shareSize e * n
+  pub groups : anyOf (wrongMark (e .mark .group)) (groupRecords s) ≡ false
+  pub shares : anyOf (wrongMark (e .mark .share)) (shareRecords e n s) ≡ false
+  pub plan : planOf e n s ≡ p
+
+pub plan-read : (e : Edition) (n : ℕ) (s : List ℕ) {p : Plan} → readPlan e n s ≡ passed p → PlanFacts e n s p
+unfolding readPlan
+plan-read e n s h =
+    let c = clear (layoutRows e n s) h in
+    let head = or-false (ltb (length s) 5) (wrongMark (e .mark .plan) s) (c .0 .0) in
+    let marks = or-false (anyOf (wrongMark (e .mark .group)) (groupRecords s)) (anyOf (wrongMark (e .mark .share)) (shareRecords e n s)) (c .0 .1 .1 .1 .1 .0) in
+    record {
+      mark = eqb-true _ _ (not-false _ (head .1));
+      few = ltb-false _ _ (c .0 .1 .0);
+      sites = eqb-true _ _ (not-false _ (c .0 .1 .1 .0));
+      size = eqb-true _ _ (not-false _ (c .0 .1 .1 .1 .0));
+      groups = marks .0;
+      shares = marks .1;
+      plan = c .1;
+    }
+
+-- a plan that was read is written again
+pub plan-again : (e : Edition) (n : ℕ) (s : List ℕ) {p : Plan} → Bytes s → readPlan e n s ≡ passed p → planBytes e p ≡ s
+unfolding planBytes
+plan-again e n s b h =
+    let r = plan-read e n s h in
+    let size = r .size in
+    let shares =
+    flat-records-last (markBytes (e .mark .share) (e .share)) (shareSize e) (bodyOf (e .share)) (wrongMark (e .mark .share))
+    (mark-again (e .mark .share) (e .share)) n (drop (5 + 10 * groupCount s) s) (rw length-drop (omega arith)) (bytes-drop (5 + 10 * groupCount s) s b) (none-of (wrongMark (e .mark .share)) (shareRecords e n s) (r .shares)) in
+    let groups =
+    flat-records (markBytes (e .mark .group) 8) 10 (bodyOf 8) (wrongMark (e .mark .group))
+    (mark-again (e .mark .group) 8) (groupCount s) (drop 5 s) (rw length-drop (omega arith)) (bytes-drop 5 s b) (none-of (wrongMark (e .mark .group)) (groupRecords s) (r .groups)) in
+    rw (← (r .plan), shares, ← (drop-drop (10 * groupCount s) 5 s), groups, ← (r .mark), length-map, length-records, length-map, length-records, ← (r .sites))
+    (rw (le-field s 3 2 b (omega arith), le-field s 2 1 b (omega arith), le-field s 0 2 b (omega arith)))
+
+-- ---- a plan that is laid out for a list
+
+pub laid-read : (e : Edition) → Marked e → (l : Listing) {p : Plan} {s : List ℕ} → length (l .sites) ≤ 512 → LaidOut e l p s
+    → readPlan e (length (l .sites)) s ≡ passed p
+laid-read e m l {p = p} k o =
+    let good : GoodPlan e p =
+    record {
+      few = o .few;
+      sites = omega (arith, o .each);
+      groups = all-from (λ (g : ℕ). g < 256 ^ 8) 0 (p .groups) (o .sets);
+      shares = all-from (λ (s : ℕ). s < 256 ^ e .share) 0 (p .shares) (o .fits);
+    } in
+    rw (o .bytes-are, ← (o .each)) (plan-back e m p good)
+
+pub read-laid : (e : Edition) (l : Listing) (s : List ℕ) {p : Plan} → Bytes s → readPlan e (length (l .sites)) s ≡ passed p → LaidOut e l p s
+read-laid e l s {p = p} b h =
+    let n = length (l .sites) in
+    let r = plan-read e n s h in
+    let gs : map (bodyOf 8) (groupRecords s) ≡ p .groups = ap (λ (q : Plan). q .groups) (r .plan) in
+    let ss : map (bodyOf (e .share)) (shareRecords e n s) ≡ p .shares = ap (λ (q : Plan). q .shares) (r .plan) in
+    let at = 5 + 10 * groupCount s in
+    record {
+      few = rw (← gs, length-map, length-records) (r .few);
+      sets = all-at (λ (g : ℕ). g < 256 ^ 8) 0 (p .groups)
+          (rw (← gs) (all-map (bodyOf 8) Bytes (λ (g : ℕ). g < 256 ^ 8) (λ (x : List ℕ) (c : Bytes x). field-small x 2 8 c) (groupRecords s) (bytes-records 10 (groupCount s) (drop 5 s) (bytes-drop 5 s b))));
+      each = rw (← ss, length-map, length-records);
+      fits = all-at (λ (g : ℕ). g < 256 ^ e .share) 0 (p .shares)
+          (rw (← ss) (all-map (bodyOf (e .share)) Bytes (λ (g : ℕ). g < 256 ^ e .share) (λ (x : List ℕ) (c : Bytes x). field-small x 2 (e .share) c) (shareRecords e n s) (bytes-records (shareSize e) n (drop at s) (bytes-drop at s b))));
+      bytes-are = sym (plan-again e n s b h);
+    }

@@ -1,0 +1,68 @@
+-- The list T of document 01, its plan, and refusals, by computation; the round trips hold at edition 1. Assumes nothing.
+use Prim.Native.Nat.{ℕ}
+use mathlib.Core.List.{List, [], _∷_}
+use mathlib.Core.Path.{_≡_, refl}
+use lib.Dec.{lit<}
+use Rattle.sets.specs.Sum.{any}
+use Rattle.density.specs.Network.{Listing}
+use Rattle.density.specs.Rows.{firstRow}
+use Rattle.records.specs.Values.{Plan}
+use Rattle.records.specs.Bytes.{le, value}
+use Rattle.records.specs.Record.{records}
+use Rattle.records.specs.Outcome.{refused, passed}
+use Rattle.records.specs.Format.{edition1, readList, readPlan}
+use Rattle.records.specs.Write.{listBytes, planBytes}
+use Rattle.records.proofs.RoundTrip.{Marked}
+
+abbrev pub T : Listing
+T = record { sites = record { first = 0; second = 1; litres = 10 } ∷ [] }
+
+abbrev pub planT : Plan
+planT = record { groups = 3 ∷ []; shares = 10 ∷ [] }
+
+abbrev pub bytesT : List ℕ
+bytesT = 0x4C ∷ 0x53 ∷ 0x01 ∷ 0x00 ∷ 0x53 ∷ 0x54 ∷ 0x00 ∷ 0x01 ∷ 0x0A ∷ 0x00 ∷ []
+
+abbrev pub planBytesT : List ℕ
+planBytesT =
+    0x50 ∷ 0x4C ∷ 0x01 ∷ 0x01 ∷ 0x00
+    ∷ 0x47 ∷ 0x52 ∷ 0x03 ∷ 0x00 ∷ 0x00 ∷ 0x00 ∷ 0x00 ∷ 0x00 ∷ 0x00 ∷ 0x00
+    ∷ 0x53 ∷ 0x48 ∷ 0x0A ∷ 0x00 ∷ 0x00 ∷ 0x00 ∷ []
+
+pub T-read : readList edition1 512 bytesT ≡ passed T
+unfolding readList firstRow records any value
+T-read = refl
+
+pub T-written : listBytes edition1 T ≡ bytesT
+unfolding listBytes le mathlib.Core.List.flatMap
+T-written = refl
+
+pub planT-read : readPlan edition1 1 planBytesT ≡ passed planT
+unfolding readPlan firstRow records any value
+planT-read = refl
+
+pub planT-written : planBytes edition1 planT ≡ planBytesT
+unfolding planBytes le mathlib.Core.List.flatMap
+planT-written = refl
+
+-- no bytes; 513 sites, with no record behind; a site mark wrong and, before it, a depot above 63
+pub none-refused : readList edition1 512 [] ≡ refused 1
+unfolding readList firstRow records any value
+none-refused = refl
+
+pub many-refused : readList edition1 512 (0x4C ∷ 0x53 ∷ 0x01 ∷ 0x02 ∷ []) ≡ refused 2
+unfolding readList firstRow records any value
+many-refused = refl
+
+pub marks-first : readList edition1 512
+    (0x4C ∷ 0x53 ∷ 0x02 ∷ 0x00 ∷ 0x53 ∷ 0x54 ∷ 0x00 ∷ 0x40 ∷ 0x0A ∷ 0x00 ∷ 0x53 ∷ 0x55 ∷ 0x00 ∷ 0x01 ∷ 0x0A ∷ 0x00 ∷ []) ≡ refused 4
+unfolding readList firstRow records any value
+marks-first = refl
+
+-- T, 50 4C 01 02 00
+pub sites-refused : readPlan edition1 1 (0x50 ∷ 0x4C ∷ 0x01 ∷ 0x02 ∷ 0x00 ∷ []) ≡ refused 9
+unfolding readPlan firstRow records any value
+sites-refused = refl
+
+pub marked1 : Marked edition1
+marked1 = record { list = lit< tt; site = lit< tt; plan = lit< tt; group = lit< tt; share = lit< tt }

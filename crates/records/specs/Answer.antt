@@ -1,0 +1,51 @@
+-- The readers' answers: the paper's number and the value of each case.
+use Prim.Native.Nat.{ℕ, _-_}
+use mathlib.Core.List.{List, [], _++_, map}
+use lib.ListN.{length, drop, replicate}
+use Rattle.density.specs.Network.{Listing, noSite}
+use Rattle.records.specs.declared.ListArray.{ListArray}
+use Rattle.records.specs.declared.PlanArray.{PlanArray}
+use Rattle.records.specs.declared.ListRead.{ListRead}
+use Rattle.records.specs.declared.PlanRead.{PlanRead}
+use Rattle.records.specs.declared.SiteRead.{SiteRead}
+use Rattle.records.specs.declared.SitesRead.{SitesRead}
+use Rattle.records.specs.declared.Edition.{Edition}
+use Rattle.records.specs.declared.Read.the-variants.{Count, Refused}
+use Rattle.records.specs.Values.{Plan}
+use Rattle.records.specs.Record.{records, anyOf, wrongMark}
+use Rattle.records.specs.Format.{siteSize, siteOf, wrongDepot, noLitres}
+use Rattle.records.specs.Outcome.{Outcome, refused, passed}
+
+-- a row of n places: these, and then zeros
+abbrev pub filled : {A : Type 0} → ℕ → List A → A → List A
+filled n xs z = xs ++ replicate (n - length xs) z
+
+-- a list and a plan as values: the places behind are zero
+abbrev pub listArray : Listing → ListArray
+listArray l = record { count = length (l .sites); sites = filled 512 (l .sites) noSite }
+
+abbrev pub planArray : Plan → PlanArray
+planArray p = record { count = length (p .groups); groups = filled 64 (p .groups) 0; shares = filled 512 (p .shares) 0 }
+
+-- what one site's record says, and what n of them behind the head say
+abbrev pub siteRead : Edition → List ℕ → SiteRead
+siteRead e r =
+    record { site = siteOf (e .litres) r; mark = wrongMark (e .mark .site) r; depot = wrongDepot r; litres = noLitres (e .litres) r }
+
+abbrev pub sitesRead : Edition → ℕ → List ℕ → SitesRead
+sitesRead e n s =
+    record {
+      sites = filled 512 (map (siteOf (e .litres)) (records (siteSize e) n (drop 4 s))) noSite;
+      marks = anyOf (wrongMark (e .mark .site)) (records (siteSize e) n (drop 4 s));
+      depots = anyOf wrongDepot (records (siteSize e) n (drop 4 s));
+      litres = anyOf (noLitres (e .litres)) (records (siteSize e) n (drop 4 s));
+    }
+
+-- the row that refuses and a value that is empty, or the count and the value
+abbrev pub listRead : Outcome Listing → ListRead
+listRead (refused n) = record { answer = Refused n; list = listArray (record { sites = [] }) }
+listRead (passed l) = record { answer = Count (length (l .sites)); list = listArray l }
+
+abbrev pub planRead : Outcome Plan → PlanRead
+planRead (refused n) = record { answer = Refused n; plan = planArray (record { groups = []; shares = [] }) }
+planRead (passed p) = record { answer = Count (length (p .groups)); plan = planArray p }

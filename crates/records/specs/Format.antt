@@ -1,0 +1,95 @@
+-- Document 01, "Records and their marks" and rows 1 to 11: how a list and a plan are read, over an edition.
+use Prim.Native.Nat.{ℕ, _+_, _*_}
+use mathlib.Core.Bool.{Bool, not, _||_}
+use mathlib.Core.List.{List, [], _∷_, map}
+use lib.ListN.{length, drop}
+use lib.Dec.{ltb, eqb}
+use Rattle.density.specs.declared.Site.{Site}
+use Rattle.density.specs.Network.{Listing}
+use Rattle.density.specs.Rows.{Row, row}
+use Rattle.records.specs.declared.Edition.{Edition}
+use Rattle.records.specs.Values.{Plan}
+use Rattle.records.specs.Bytes.{field}
+use Rattle.records.specs.Record.{records, anyOf, wrongMark}
+use Rattle.records.specs.Outcome.{Outcome, gate}
+
+-- Edition 1: its marks are the bytes 4C 53, 53 54, 50 4C, 47 52 and 53 48; litres have 2 bytes and a share 4.
+abbrev pub edition1 : Edition
+edition1 =
+    record {
+      mark = record { list = 0x534C; site = 0x5453; plan = 0x4C50; group = 0x5247; share = 0x4853 };
+      litres = 2;
+      share = 4;
+    }
+
+-- "53 54, first depot (1), second depot (1), litres (2)": the bytes of a site's record, and its site
+abbrev pub siteSize : Edition → ℕ
+siteSize e = 4 + e .litres
+
+abbrev pub siteOf : ℕ → List ℕ → Site
+siteOf w r = record { first = field r 2 1; second = field r 3 1; litres = field r 4 w }
+
+-- "List: 4C 53, site count (2 bytes). Then per site" a record
+abbrev pub siteCount : List ℕ → ℕ
+siteCount s = field s 2 2
+
+abbrev pub siteRecords : Edition → List ℕ → List (List ℕ)
+siteRecords e s = records (siteSize e) (siteCount s) (drop 4 s)
+
+abbrev pub sitesOf : Edition → List ℕ → List Site
+sitesOf e s = map (siteOf (e .litres)) (siteRecords e s)
+
+-- "a named depot above 63", and "litres 0", of a site's record
+abbrev pub wrongDepot : List ℕ → Bool
+wrongDepot r = ltb 63 (field r 2 1) || ltb 63 (field r 3 1)
+
+abbrev pub noLitres : ℕ → List ℕ → Bool
+noLitres w r = eqb (field r 4 w) 0
+
+-- rows 1 to 6, of a list for which there are so many places
+abbrev pub listRows : Edition → ℕ → List ℕ → List Row
+listRows e places s =
+    row 1 (ltb (length s) 4 || wrongMark (e .mark .list) s)
+    ∷ row 2 (ltb 512 (siteCount s) || ltb places (siteCount s))
+    ∷ row 3 (not (eqb (length s) (4 + siteSize e * siteCount s)))
+    ∷ row 4 (anyOf (wrongMark (e .mark .site)) (siteRecords e s))
+    ∷ row 5 (anyOf wrongDepot (siteRecords e s))
+    ∷ row 6 (anyOf (noLitres (e .litres)) (siteRecords e s))
+    ∷ []
+
+unfoldable pub readList : Edition → ℕ → List ℕ → Outcome Listing
+readList e places s = gate (listRows e places s) (record { sites = sitesOf e s })
+
+-- "Plan: 50 4C, group count (1), site count (2). Then per group, heaviest first, 47 52 and a set (8)"
+abbrev pub groupCount : List ℕ → ℕ
+groupCount s = field s 2 1
+
+abbrev pub groupRecords : List ℕ → List (List ℕ)
+groupRecords s = records 10 (groupCount s) (drop 5 s)
+
+-- "Then per site, in list order, 53 48 and s (4)"
+abbrev pub shareSize : Edition → ℕ
+shareSize e = 2 + e .share
+
+abbrev pub shareRecords : Edition → ℕ → List ℕ → List (List ℕ)
+shareRecords e sites s = records (shareSize e) sites (drop (5 + 10 * groupCount s) s)
+
+-- the number of w bytes behind a record's mark
+abbrev pub bodyOf : ℕ → List ℕ → ℕ
+bodyOf w r = field r 2 w
+
+abbrev pub planOf : Edition → ℕ → List ℕ → Plan
+planOf e sites s = record { groups = map (bodyOf 8) (groupRecords s); shares = map (bodyOf (e .share)) (shareRecords e sites s) }
+
+-- rows 7 to 11, of a plan for a list of so many sites
+abbrev pub layoutRows : Edition → ℕ → List ℕ → List Row
+layoutRows e sites s =
+    row 7 (ltb (length s) 5 || wrongMark (e .mark .plan) s)
+    ∷ row 8 (ltb 64 (groupCount s))
+    ∷ row 9 (not (eqb (field s 3 2) sites))
+    ∷ row 10 (not (eqb (length s) (5 + 10 * groupCount s + shareSize e * sites)))
+    ∷ row 11 (anyOf (wrongMark (e .mark .group)) (groupRecords s) || anyOf (wrongMark (e .mark .share)) (shareRecords e sites s))
+    ∷ []
+
+unfoldable pub readPlan : Edition → ℕ → List ℕ → Outcome Plan
+readPlan e sites s = gate (layoutRows e sites s) (planOf e sites s)

@@ -1,0 +1,7 @@
+pub mod Values
+pub mod Bytes
+pub mod Record
+pub mod Outcome
+pub mod Format
+pub mod Answer
+pub mod Write

@@ -1,0 +1,53 @@
+-- Document 01, "Records and their marks" and row 20: how a list and a plan are written, over an edition, and what a writer leaves in a buffer.
+use Prim.Native.Nat.{ℕ, _+_, _<_, _≤_, _^_}
+use mathlib.Core.Bool.{cond}
+use mathlib.Core.List.{List, _++_, flatMap}
+use mathlib.Core.Path.{_≡_}
+use lib.ListN.{length, take, drop, getD}
+use lib.Dec.{leb}
+use Rattle.density.specs.declared.Site.{Site}
+use Rattle.density.specs.Network.{Listing}
+use Rattle.records.specs.Bytes.{le}
+use Rattle.records.specs.Values.{Plan}
+use Rattle.records.specs.declared.Edition.{Edition}
+use Rattle.records.specs.declared.Wrote.{Wrote}
+use Rattle.records.specs.declared.Wrote.the-variants.{Length, Refused}
+
+-- a record of a mark and one number of w bytes
+abbrev pub markBytes : ℕ → ℕ → ℕ → List ℕ
+markBytes mark w x = le 2 mark ++ le w x
+
+abbrev pub siteBytes : Edition → Site → List ℕ
+siteBytes e x = le 2 (e .mark .site) ++ (le 1 (x .first) ++ (le 1 (x .second) ++ le (e .litres) (x .litres)))
+
+unfoldable pub listBytes : Edition → Listing → List ℕ
+listBytes e l = le 2 (e .mark .list) ++ (le 2 (length (l .sites)) ++ flatMap (siteBytes e) (l .sites))
+
+unfoldable pub planBytes : Edition → Plan → List ℕ
+planBytes e p =
+    le 2 (e .mark .plan)
+    ++ (le 1 (length (p .groups))
+    ++ (le 2 (length (p .shares))
+    ++ (flatMap (markBytes (e .mark .group) 8) (p .groups)
+    ++ flatMap (markBytes (e .mark .share) (e .share)) (p .shares))))
+
+-- a buffer with p at a place
+abbrev pub place : ℕ → List ℕ → List ℕ → List ℕ
+place at p d = take at d ++ (p ++ drop (at + length p) d)
+
+-- "Bytes after the plan are unchanged": a buffer with p at its front
+abbrev pub onto : List ℕ → List ℕ → List ℕ
+onto p d = p ++ drop (length p) d
+
+-- what a writer of these bytes answers, and what the buffer then holds; row 20, "buffer shorter than the plan", leaves it as it was
+pub record Written (bytes out : List ℕ) (r : Wrote) (last : List ℕ) : Type 0 where
+  pub answer : r ≡ cond (leb (length bytes) (length out)) (Length (length bytes)) (Refused 20)
+  pub buffer : last ≡ cond (leb (length bytes) (length out)) (onto bytes out) out
+
+-- the bytes are the plan's, "laid out for" the list "as under Records": at most 64 groups, each a set of depots below 64, and a share for each site
+pub record LaidOut (e : Edition) (l : Listing) (p : Plan) (bytes : List ℕ) : Type 0 where
+  pub few : length (p .groups) ≤ 64
+  pub sets : (k : ℕ) → k < length (p .groups) → getD (p .groups) k 0 < 2 ^ 64
+  pub each : length (p .shares) ≡ length (l .sites)
+  pub fits : (i : ℕ) → i < length (p .shares) → getD (p .shares) i 0 < 256 ^ e .share
+  pub bytes-are : bytes ≡ planBytes e p

@@ -1,0 +1,133 @@
+// The reader of a list.
+use crate::Edition;
+use crate::ListArray;
+use crate::ListRead;
+use crate::Read;
+use crate::SiteRead;
+use crate::SitesRead;
+use crate::Step;
+use crate::scan;
+use density::Site;
+ghost use mathlib.Core.Path.{_≡_};
+ghost use Prim.Native.Nat.{_≤_, _+_, _*_};
+ghost use lib.ListN.{length, take, drop};
+ghost use Rattle.records.specs.Answer.{siteRead, sitesRead, listRead};
+ghost use Rattle.records.specs.Outcome.{refused};
+ghost use Rattle.records.specs.Format.{siteSize, readList};
+
+// What the record of a site at a place of `s` says.
+pub fn site_at(e: Edition, s: &[u8], at: usize) -> SiteRead
+    requires { ⌜ (e .litres ≤ 4) × (at + siteSize e ≤ length (now s)) ⌝ }
+    ensures { λ r. ⌜ r ≡ siteRead e (take (siteSize e) (drop at (now (s .entry)))) ⌝ }
+{
+    let w = e.litres;
+    let r = scan::record_at(s, at, 2 + w);
+    let first = (r.body % 256) as u8;
+    let second = (r.body / 256 % 256) as u8;
+    let litres = (r.body / 65536) as u32;
+    let site = Site {
+        first,
+        second,
+        litres,
+    };
+    let mark = r.mark != e.mark.site;
+    let depot = scan::either(63 < first, 63 < second);
+    let none = litres == 0;
+    SiteRead {
+        site,
+        mark,
+        depot,
+        litres: none,
+    }
+}
+
+// The records of `n` sites behind the head of `s`, each read once.
+pub fn sites(e: Edition, n: usize, s: &[u8]) -> SitesRead
+    requires { ⌜ (e .litres ≤ 4) × (n ≤ 512) × (4 + siteSize e * n ≤ length (now s)) ⌝ }
+    ensures { λ r. ⌜ r ≡ sitesRead e n (now (s .entry)) ⌝ }
+{
+    let none = Site {
+        first: 0,
+        second: 0,
+        litres: 0,
+    };
+    let size = 4 + e.litres;
+    let mut sites = [none; 512];
+    let mut marks = false;
+    let mut depots = false;
+    let mut litres = false;
+    let mut at = 4;
+    let mut i = 0;
+    while i < n {
+        let r = site_at(e, s, at);
+        let x = r.site;
+        sites[i] = x;
+        marks = scan::either(marks, r.mark);
+        depots = scan::either(depots, r.depot);
+        litres = scan::either(litres, r.litres);
+        at += size;
+        i += 1;
+    }
+    SitesRead {
+        sites,
+        marks,
+        depots,
+        litres,
+    }
+}
+
+// A list that row `n` refuses.
+fn no_list(n: u8) -> ListRead
+    ensures { λ r. ⌜ r ≡ listRead (refused n) ⌝ }
+{
+    let none = Site {
+        first: 0,
+        second: 0,
+        litres: 0,
+    };
+    let list = ListArray {
+        count: 0,
+        sites: [none; 512],
+    };
+    ListRead {
+        answer: Read::Refused(n),
+        list,
+    }
+}
+
+// Reads a list for which there are `places` places.
+pub fn read(e: Edition, places: usize, s: &[u8]) -> ListRead
+    requires { ⌜ e .litres ≤ 4 ⌝ }
+    ensures { λ r. ⌜ r ≡ listRead (readList e places (now (s .entry))) ⌝ }
+{
+    let Step::Record(mark, count, _) = scan::read_at(s, 0, 2) else {
+        return no_list(1);
+    };
+    if mark != e.mark.list {
+        return no_list(1);
+    }
+    let n = count as usize;
+    if 512 < n || places < n {
+        return no_list(2);
+    }
+    let size = 4 + e.litres;
+    if s.len() != 4 + size * n {
+        return no_list(3);
+    }
+    let r = sites(e, n, s);
+    if r.marks {
+        return no_list(4);
+    }
+    if r.depots {
+        return no_list(5);
+    }
+    if r.litres {
+        return no_list(6);
+    }
+    let sites = r.sites;
+    let list = ListArray { count: n, sites };
+    ListRead {
+        answer: Read::Count(n),
+        list,
+    }
+}

@@ -1,0 +1,40 @@
+// Numbers as bytes, low byte first.
+ghost use mathlib.Core.Path.{_≡_};
+ghost use Prim.Native.Nat.{_≤_, _+_};
+ghost use lib.ListN.{length, take, drop};
+ghost use Rattle.records.specs.Bytes.{le, Value};
+
+// The number that the bytes of `s` stand for.
+pub fn value(s: &[u8]) -> u64
+    requires { ⌜ length (now s) ≤ 8 ⌝ }
+    ensures { λ r. ⌜ Value (now (s .entry)) r ⌝ }
+{
+    let mut v: u64 = 0;
+    let mut i = s.len();
+    while 0 < i {
+        i -= 1;
+        v = v * 256 + (s[i] as u64);
+    }
+    v
+}
+
+// The number of `w` bytes at a place of `s`.
+pub fn field(s: &[u8], at: usize, w: usize) -> u64
+    requires { ⌜ (w ≤ 8) × (at + w ≤ length (now s)) ⌝ }
+    ensures { λ r. ⌜ Value (take w (drop at (now (s .entry)))) r ⌝ }
+{
+    value(&s[at..at + w])
+}
+
+// Fills `out` with the low bytes of `x`.
+pub fn put(out: &mut [u8], x: u64)
+    ensures { λ _. ⌜ now (out .exit) ≡ le (length (now (out .entry))) x ⌝ }
+{
+    let mut rest = x;
+    let mut i = 0;
+    while i < out.len() {
+        out[i] = (rest % 256) as u8;
+        rest = rest / 256;
+        i += 1;
+    }
+}

@@ -1,0 +1,91 @@
+// The reader of a plan.
+use crate::Edition;
+use crate::PlanArray;
+use crate::PlanRead;
+use crate::Read;
+use crate::Step;
+use crate::scan;
+ghost use mathlib.Core.Path.{_≡_};
+ghost use mathlib.Core.List.{map};
+ghost use Prim.Native.Nat.{_≤_, _+_, _*_};
+ghost use lib.ListN.{length, drop};
+ghost use Rattle.records.specs.Answer.{planRead};
+ghost use Rattle.records.specs.Outcome.{refused};
+ghost use Rattle.records.specs.Record.{records, anyOf, wrongMark};
+ghost use Rattle.records.specs.Format.{bodyOf, readPlan};
+
+// Reads records of a mark and a number of `w` bytes from a place of `s` on, one for each place of `out`; answers whether a mark is wrong.
+pub fn numbers(s: &[u8], from: usize, w: usize, mark: u64, out: &mut [u64]) -> bool
+    requires { ⌜ (w ≤ 8) × (from + (2 + w) * length (now out) ≤ length (now s)) ⌝ }
+    ensures { λ r. ⌜ (r ≡ anyOf (wrongMark mark) (records (2 + w) (length (now (out .entry))) (drop from (now (s .entry))))) × (now (out .exit) ≡ map (bodyOf w) (records (2 + w) (length (now (out .entry))) (drop from (now (s .entry))))) ⌝ }
+{
+    let mut wrong = false;
+    let mut at = from;
+    let mut i = 0;
+    while i < out.len() {
+        let r = scan::record_at(s, at, w);
+        wrong = scan::either(wrong, r.mark != mark);
+        out[i] = r.body;
+        at = r.next;
+        i += 1;
+    }
+    wrong
+}
+
+// A plan that row `n` refuses.
+fn no_plan(n: u8) -> PlanRead
+    ensures { λ r. ⌜ r ≡ planRead (refused n) ⌝ }
+{
+    let plan = PlanArray {
+        count: 0,
+        groups: [0; 64],
+        shares: [0; 512],
+    };
+    PlanRead {
+        answer: Read::Refused(n),
+        plan,
+    }
+}
+
+// Reads a plan for a list of `sites` sites.
+pub fn read(e: Edition, sites: usize, s: &[u8]) -> PlanRead
+    requires { ⌜ (e .share ≤ 8) × (sites ≤ 512) ⌝ }
+    ensures { λ r. ⌜ r ≡ planRead (readPlan e sites (now (s .entry))) ⌝ }
+{
+    let Step::Record(mark, body, _) = scan::read_at(s, 0, 3) else {
+        return no_plan(7);
+    };
+    if mark != e.mark.plan {
+        return no_plan(7);
+    }
+    let count = (body % 256) as usize;
+    if 64 < count {
+        return no_plan(8);
+    }
+    if body / 256 != sites as u64 {
+        return no_plan(9);
+    }
+    let w = e.share;
+    let at = 5 + 10 * count;
+    let size = 2 + w;
+    if s.len() != at + size * sites {
+        return no_plan(10);
+    }
+    let mut groups = [0u64; 64];
+    if numbers(s, 5, 8, e.mark.group, &mut groups[..count]) {
+        return no_plan(11);
+    }
+    let mut shares = [0u64; 512];
+    if numbers(s, at, w, e.mark.share, &mut shares[..sites]) {
+        return no_plan(11);
+    }
+    let plan = PlanArray {
+        count,
+        groups,
+        shares,
+    };
+    PlanRead {
+        answer: Read::Count(count),
+        plan,
+    }
+}

@@ -1,0 +1,159 @@
+-- Sums over the sites, kept in arrays: W of each group, and each depot's scaled load; then rows 15 and 16. Assumes nothing.
+use mathlib.Core.Path.{_≡_, refl, sym, ap, ap₂, _∙_}
+use mathlib.Core.Logic.{⊎-elim}
+use mathlib.Core.Bool.{Bool, true, false, not, _&&_, and-false}
+use mathlib.Core.List.{List}
+use Prim.Native.Nat.{ℕ, _+_, _-_, _*_, _≤_, _<_, _^_, max}
+use native.Mathlib.Numerals.{add-one}
+use native.Mathlib.Omega.{arith}
+use borrow.Author.Tests.{eq-eqb, ne-eqb}
+use lib.Dec.{T, eqb, leb}
+use lib.ListN.{length, getD, set, replicate, length-set, getD-replicate}
+use Rattle.sets.specs.Sum.{when, sum, any}
+use Rattle.sets.specs.Set.{has, setOf}
+use Rattle.sets.proofs.Test.{T?, is-false, passes, when-≤}
+use Rattle.sets.proofs.Sum.{sum-cong, any-cong}
+use Rattle.sets.proofs.Member.{has-setOf}
+use Rattle.density.specs.declared.Site.{Site}
+use Rattle.density.specs.Network.{Listing, Network, noSite, network}
+use Rattle.density.specs.Plan.{place, carrier, groupSize, groupLitres, secondShare, shareOf, target}
+use Rattle.density.specs.Rows.{scaledLoad, loadsUneven, groupsRise}
+use Rattle.records.specs.declared.ListArray.{ListArray}
+use Rattle.records.specs.declared.PlanArray.{PlanArray}
+use Rattle.records.specs.Values.{listing}
+use Rattle.verify.specs.Tables.{net, groupsIn, sharesIn, Holds, Ready, Tables, Placed, Litres, Entry}
+use Rattle.verify.proofs.Sites.{count-is, site-is}
+use Rattle.verify.proofs.Arrays.{added}
+use Rattle.verify.proofs.Shares.{sites-count, place-lt}
+
+-- the array has, at each place k, the terms f k of the first i sites added up; a term is at most c
+pub record Summed (f : ℕ → ℕ → ℕ) (c : ℕ) (a : List ℕ) (i : ℕ) : Type 0 where
+  pub wide : length a ≡ 64
+  pub is : Holds a (λ k. sum (f k) i) 64
+  pub low : (k : ℕ) → k < 64 → getD a k 0 ≤ i * c
+
+pub summed-start : (f : ℕ → ℕ → ℕ) (c : ℕ) → Summed f c (replicate 64 0) 0
+unfolding sum
+summed-start f c = record { wide = refl; is = λ k l. getD-replicate 64 k 0 0 l; low = λ k l. omega (arith, getD-replicate {A = ℕ} 64 k 0 0 l) }
+
+-- a site more
+pub summed-more : (f : ℕ → ℕ → ℕ) (c : ℕ) (a b : List ℕ) (i : ℕ) → Summed f c a i → length b ≡ 64
+    → ((k : ℕ) → k < 64 → getD b k 0 ≡ getD a k 0 + f k i) → ((k : ℕ) → k < 64 → f k i ≤ c) → Summed f c b (i + 1)
+unfolding sum
+summed-more f c a b i h w e l =
+    record {
+      wide = w;
+      is = λ k m. e k m ∙ ap (λ n. n + f k i) (h .is k m) ∙ sym (ap (sum (f k)) (add-one i));
+      low = λ k m. omega (arith, e k m, h .low k m, l k m);
+    }
+
+-- one amount added
+pub summed-one : (f : ℕ → ℕ → ℕ) (c : ℕ) (a b : List ℕ) (i d x : ℕ) → Summed f c a i → d < 64 → x ≤ c → b ≡ set a d (getD a d 0 + x)
+    → ((k : ℕ) → f k i ≡ when (eqb d k) x) → Summed f c b (i + 1)
+summed-one f c a b i d x h l m e t =
+    summed-more f c a b i h (ap length e ∙ length-set a d _ ∙ h .wide)
+    (λ k n. ap (λ (y : List ℕ). getD y k 0) e ∙ added a d x (omega (arith, h .wide)) k ∙ ap (λ n. getD a k 0 + n) (sym (t k)))
+    (λ k n. omega (arith, t k, when-≤ (eqb d k) x))
+
+-- two amounts added
+pub summed-two : (f : ℕ → ℕ → ℕ) (c : ℕ) (a a′ b : List ℕ) (i d x e y : ℕ) → Summed f c a i → d < 64 → e < 64 → x + y ≤ c
+    → a′ ≡ set a d (getD a d 0 + x) → b ≡ set a′ e (getD a′ e 0 + y) → ((k : ℕ) → f k i ≡ when (eqb d k) x + when (eqb e k) y) → Summed f c b (i + 1)
+summed-two f c a a′ b i d x e y h l l′ m p q t =
+    summed-more f c a b i h (ap length q ∙ length-set a′ e _ ∙ wide)
+    (λ k n.
+    omega (arith, ap (λ (z : List ℕ). getD z k 0) q, added a′ e y (omega (arith, wide)) k, ap (λ (z : List ℕ). getD z k 0) p, added a d x (omega (arith, h .wide)) k, t k))
+    (λ k n. omega (arith, t k, when-≤ (eqb d k) x, when-≤ (eqb e k) y))
+  where
+    wide : length a′ ≡ 64
+    wide = ap length p ∙ length-set a d _ ∙ h .wide
+
+-- ---- W
+
+-- what site j adds to place k
+abbrev pub carried : List Site → List ℕ → ℕ → ℕ → ℕ
+carried sites places k j =
+    when (eqb (max (getD places (getD sites j noSite .first) 0) (getD places (getD sites j noSite .second) 0)) k) (getD sites j noSite .litres)
+
+pub litres-end : (list : ListArray) (places r : List ℕ) → Placed list places → (i : ℕ) → i ≡ list .count → Summed (carried (list .sites) places) (2 ^ 32) r i
+    → Litres list places r
+unfolding groupLitres carrier
+litres-end list places r p i e h =
+    record {
+      is = λ gs t k l.
+          h .is k l
+          ∙ sum-cong _ _ i
+          (λ j m.
+          let n : j < list .count = omega arith in
+          let s = site-is list (p .sites .1) (p .sites .0) j n in
+          ap₂ (λ x y. when (eqb (max x y) k) (getD (list .sites) j noSite .litres)) (t _ (p .depots j n .0)) (t _ (p .depots j n .1))
+          ∙ ap (λ (z : Site). when (eqb (max (place gs (z .first)) (place gs (z .second))) k) (z .litres)) (sym s))
+          ∙ ap (sum _) (e ∙ sym (count-is list (p .sites .1) (p .sites .0)));
+      low = λ k l. omega (arith, h .low k l, p .sites .0);
+    }
+
+-- ---- the scaled loads
+
+pub share-of : (N : Network) (gs ss : List ℕ) (i : ℕ) (s : Site) (a b all x : ℕ) → Entry N gs ss i s a b all x
+    → (d : ℕ) → shareOf N gs ss d i ≡ when (eqb (s .first) d) x + when (eqb (s .second) d) (all - x)
+unfolding shareOf secondShare
+share-of N gs ss i s a b all x e d = rw (e .site, e .whole, e .share)
+
+pub loads-end : (list : ListArray) (plan : PlanArray) → Ready list plan → (a : List ℕ) (i : ℕ) → i ≡ list .count
+    → Summed (shareOf (net list) (groupsIn list plan) (sharesIn list plan)) (2 ^ 42) a i
+    → Holds a (scaledLoad (net list) (groupsIn list plan) (sharesIn list plan)) 64
+unfolding scaledLoad
+loads-end list plan r a i e h k l = h .is k l ∙ ap (sum _) (e ∙ sym (sites-count list plan r))
+
+-- ---- row 15
+
+abbrev pub unevenAt : Listing → ℕ → List ℕ → List ℕ → List ℕ → ℕ → Bool
+unevenAt l all loads places litres d = has all d && not (eqb (getD loads d 0) (network l .crews d * getD litres (getD places d 0) 0))
+
+pub uneven-is : (list : ListArray) (plan : PlanArray) (r : Ready list plan) (places sizes : List ℕ) → Tables list plan places sizes → (litres : List ℕ) → Litres list places litres
+    → (all : ℕ) → all ≡ setOf (net list .listed) 64 → (loads : List ℕ) → Holds loads (scaledLoad (net list) (groupsIn list plan) (sharesIn list plan)) 64
+    → any (unevenAt (listing list) all loads places litres) 64 ≡ loadsUneven (net list) (groupsIn list plan) (sharesIn list plan)
+unfolding loadsUneven target
+uneven-is list plan r places sizes t litres w all e loads h =
+    any-cong _ _ 64
+    (λ d l.
+    let listed : has all d ≡ net list .listed d = ap (λ (n : ℕ). has n d) e ∙ has-setOf 64 (net list .listed) d l in
+    ⊎-elim
+    (λ u.
+    let here : getD litres (getD places d 0) 0 ≡ groupLitres (net list) (groupsIn list plan) (place (groupsIn list plan) d) =
+    ap (λ k. getD litres k 0) (t .place d l) ∙ w .is (groupsIn list plan) (t .place) (place (groupsIn list plan) d) (omega (arith, place-lt list plan r d u, r .counted .groups)) in
+    rw (listed, h d l, here))
+    (λ n. rw (listed, is-false (net list .listed d) n))
+    (T? (net list .listed d)))
+
+-- ---- row 16
+
+abbrev pub risesAt : List ℕ → List ℕ → ℕ → Bool
+risesAt litres sizes k = leb (getD litres k 0 * getD sizes (k + 1) 0) (getD litres (k + 1) 0 * getD sizes k 0)
+
+pub rises-is : (litres sizes : List ℕ) (n : ℕ) (N : Network) (gs : List ℕ) → length gs ≡ n → Holds litres (groupLitres N gs) n → Holds sizes (groupSize N gs) n
+    → any (risesAt litres sizes) (n - 1) ≡ groupsRise N gs
+unfolding groupsRise
+rises-is litres sizes n N gs e w q =
+    rw e
+    (any-cong _ _ (n - 1)
+    (λ k l.
+    ap₂ leb (ap₂ _*_ (w k (omega arith)) (q (k + 1) (omega arith))) (ap₂ _*_ (w (k + 1) (omega arith)) (q k (omega arith)))
+    ∙ ap (λ m. leb (groupLitres N gs k * groupSize N gs m) (groupLitres N gs m * groupSize N gs k)) (add-one k)))
+
+-- ---- a step of the loop of row 15
+
+pub listed-place : (list : ListArray) (plan : PlanArray) (r : Ready list plan) (places sizes : List ℕ) → Tables list plan places sizes
+    → (all d : ℕ) → all ≡ setOf (net list .listed) 64 → d < 64 → has all d ≡ true → getD places d 0 < 64
+listed-place list plan r places sizes t all d e l h =
+    let u : T (net list .listed d) = passes _ (sym (ap (λ (n : ℕ). has n d) e ∙ has-setOf 64 (net list .listed) d l) ∙ h) in
+    omega (arith, t .place d l, place-lt list plan r d u, r .counted .groups)
+
+module _ (l : Listing) (all : ℕ) (loads places litres : List ℕ) (d : ℕ) where
+  pub uneven-here : has all d ≡ true → (x : ℕ) → x ≡ network l .crews d * getD litres (getD places d 0) 0 → (getD loads d 0 ≡ x → ⊥) → unevenAt l all loads places litres d ≡ true
+  uneven-here h x e n = rw (h, ← e, ne-eqb (getD loads d 0) x n)
+
+  pub even-here : (x : ℕ) → x ≡ network l .crews d * getD litres (getD places d 0) 0 → getD loads d 0 ≡ x → unevenAt l all loads places litres d ≡ false
+  even-here x e q = rw (← e, eq-eqb (getD loads d 0) x q) (and-false (has all d))
+
+  pub unlisted-here : has all d ≡ false → unevenAt l all loads places litres d ≡ false
+  unlisted-here h = rw h

@@ -1,0 +1,127 @@
+-- `verify::loads` meets its contract. The invariant: each depot has its shares of the sites passed. Assumes nothing.
+use mathlib.Core.Path.{ap}
+use Prim.Native.Nat.{ℕ, _-_, _≤_, _^_}
+use native.Mathlib.Omega.{arith}
+use mathlib.Core.List.{List}
+use lib.Dec.{eqb}
+use Rattle.density.specs.Network.{noSite}
+use lib.ListN.{getD}
+use Rattle.sets.proofs.Test.{when-≤}
+use Rattle.density.specs.Plan.{shareOf}
+use Rattle.verify.specs.Tables.{net, groupsIn, sharesIn}
+use Rattle.verify.proofs.Arrays.{added}
+use Rattle.verify.proofs.Shares.{depots-small, asked, entry, share-≤}
+use Rattle.verify.proofs.Totals.{Summed, summed-start, summed-two, share-of, loads-end}
+use borrow.Author.Needs.{needs}
+use Rattle.verify.proofs.loads.Statement.{statement}
+use Rattle.verify.proofs.loads.Tie as tie
+
+abbrev Inv-loop : tie.InvT-loop
+Inv-loop places sizes list plan r₀ i₀ r i = (i ≤ list .count) × Summed (shareOf (net list) (groupsIn list plan) (sharesIn list plan)) (2 ^ 42) r i
+
+abbrev μ-loop : tie.MeasureT-loop
+μ-loop places sizes list plan r₀ i₀ r i = list .count - i
+
+loop-holds : tie.Need-loop-holds Inv-loop μ-loop
+loop-holds c = (search needs, summed-start _ _)
+
+mul-s : tie.Need-mul-s Inv-loop μ-loop
+mul-s c = omega (arith, c .before .before .before .before .pre .0 .0 .counted .sites)
+
+element-copy-out-s : tie.Need-element-copy-out-s Inv-loop μ-loop
+element-copy-out-s c = omega (arith, c .before .before .before .before .pre .0 .0 .counted .sites)
+
+whole-requires : tie.Need-whole-requires Inv-loop μ-loop
+whole-requires c κs =
+    let s = c .before .before .before .before .before in
+    let i = c .before .before .loop .i in
+    let l = c .before .loop-test .taken in
+    asked (s .args .t1) (s .args .t2) (s .pre .0 .0) (s .args .places .now) (s .args .sizes .now) (s .pre .0 .1) i l
+
+mul-share : tie.Need-mul-share Inv-loop μ-loop
+mul-share c = omega (arith, c .before .before .before .before .before .before .pre .0 .0 .counted .sites)
+
+element-copy-out-share : tie.Need-element-copy-out-share Inv-loop μ-loop
+element-copy-out-share c = omega (arith, c .before .before .before .before .before .before .pre .0 .0 .counted .sites)
+
+add-load-requires : tie.Need-add-load-requires Inv-loop μ-loop
+add-load-requires c κs =
+    let s = c .before .before .before .before .before .before .before in
+    let i = c .before .before .before .before .loop .i in
+    let l = c .before .before .before .loop-test .taken in
+    let d = depots-small (s .args .t1) (s .args .t2) (s .pre .0 .0) (s .args .places .now) (s .args .sizes .now) (s .pre .0 .1) i l .0 in
+    (d, omega (arith, c .before .before .before .before .loop .inv .1 .low _ d, share-≤ (s .args .t1) (s .args .t2) (s .pre .0 .0) (s .args .places .now) (s .args .sizes .now) (s .pre .0 .1) i l (s .pre .1), c .before .whole .ensures .0, c .before .whole .ensures .1, s .pre .0 .0 .counted .sites))
+
+sub-add-load : tie.Need-sub-add-load Inv-loop μ-loop
+sub-add-load c =
+    let s = c .before .before .before .before .before .before .before .before in
+    let i = c .before .before .before .before .before .loop .i in
+    let l = c .before .before .before .before .loop-test .taken in
+    omega (arith, share-≤ (s .args .t1) (s .args .t2) (s .pre .0 .0) (s .args .places .now) (s .args .sizes .now) (s .pre .0 .1) i l (s .pre .1), c .before .before .whole .ensures .0)
+
+add-load-requires-2 : tie.Need-add-load-requires-2 Inv-loop μ-loop
+add-load-requires-2 c κs =
+    let s = c .before .before .before .before .before .before .before .before in
+    let i = c .before .before .before .before .before .loop .i in
+    let l = c .before .before .before .before .loop-test .taken in
+    let site = getD (s .args .t1 .sites) i noSite in
+    let x = getD (s .args .t2 .shares) i 0 in
+    let d = depots-small (s .args .t1) (s .args .t2) (s .pre .0 .0) (s .args .places .now) (s .args .sizes .now) (s .pre .0 .1) i l in (
+      d .1,
+      omega (
+        arith,
+        c .before .before .before .before .before .loop .inv .1 .low (site .second) (d .1),
+        ap (λ (a : List ℕ). getD a (site .second) 0) (c .add-load .ensures),
+        added (c .before .before .before .before .before .loop .r) (site .first) x (omega (arith, d .0, c .before .before .before .before .before .loop .inv .1 .wide)) (site .second),
+        when-≤ (eqb (site .first) (site .second)) x,
+        share-≤ (s .args .t1) (s .args .t2) (s .pre .0 .0) (s .args .places .now) (s .args .sizes .now) (s .pre .0 .1) i l (s .pre .1),
+        c .before .before .whole .ensures .0,
+        c .before .before .whole .ensures .1,
+        s .pre .0 .0 .counted .sites,
+      ),
+    )
+
+add-i : tie.Need-add-i Inv-loop μ-loop
+add-i c = omega (arith, c .before .before .before .before .before .before .before .before .before .pre .0 .0 .counted .sites)
+
+loop-less : tie.Need-loop-less Inv-loop μ-loop
+loop-less c = search needs
+
+loop-again : tie.Need-loop-again Inv-loop μ-loop
+loop-again c =
+    let s = c .before .before .before .before .before .before .before .before .before in
+    let i = c .before .before .before .before .before .before .loop .i in
+    let l = c .before .before .before .before .before .loop-test .taken in
+    let site = getD (s .args .t1 .sites) i noSite in
+    let all = c .before .before .before .whole .result in
+    let x = getD (s .args .t2 .shares) i 0 in
+    let d = depots-small (s .args .t1) (s .args .t2) (s .pre .0 .0) (s .args .places .now) (s .args .sizes .now) (s .pre .0 .1) i l in
+    let e = rw (← (c .before .before .before .whole .ensures .0)) at (entry (s .args .t1) (s .args .t2) (s .pre .0 .0) (s .args .places .now) (s .args .sizes .now) (s .pre .0 .1) i l) in (
+      search needs,
+      summed-two _ (2 ^ 42) _ _ _ i (site .first) x (site .second) (all - x) (c .before .before .before .before .before .before .loop .inv .1) (d .0) (d .1)
+          (omega (arith, share-≤ (s .args .t1) (s .args .t2) (s .pre .0 .0) (s .args .places .now) (s .args .sizes .now) (s .pre .0 .1) i l (s .pre .1), c .before .before .before .whole .ensures .0, c .before .before .before .whole .ensures .1)) (c .before .add-load .ensures) (c .add-load2 .ensures)
+          (share-of _ _ _ i _ _ _ all x e),
+    )
+
+returns : tie.Need-returns Inv-loop μ-loop
+returns c = loads-end (c .before .before .before .before .args .t1) (c .before .before .before .before .args .t2) (c .before .before .before .before .pre .0 .0) _ (c .before .loop .i) (omega arith) (c .before .loop .inv .1)
+
+pub loads-spec : {M : Type 1} → statement M
+loads-spec =
+    tie.close
+    (tie.spec
+    Inv-loop
+    μ-loop
+    loop-holds
+    mul-s
+    element-copy-out-s
+    whole-requires
+    mul-share
+    element-copy-out-share
+    add-load-requires
+    sub-add-load
+    add-load-requires-2
+    add-i
+    loop-less
+    loop-again
+    returns)

@@ -1,0 +1,74 @@
+-- What the check keeps of a list and a plan while it tries rows 14 to 16.
+use mathlib.Core.Path.{_≡_}
+use mathlib.Core.List.{List}
+use Prim.Native.Nat.{ℕ, _*_, _≤_, _<_, _^_}
+use lib.Dec.{T}
+use lib.ListN.{length, getD}
+use Rattle.density.specs.declared.Site.{Site}
+use Rattle.density.specs.Network.{Network, noSite, network, depotsInRange}
+use Rattle.density.specs.Plan.{union, place, groupSize, groupLitres, whole, firstShare}
+use Rattle.records.specs.declared.ListArray.{ListArray}
+use Rattle.records.specs.declared.PlanArray.{PlanArray}
+use Rattle.records.specs.Values.{listing, planIn}
+
+-- the network of a list, and the groups and shares of a plan for it
+abbrev pub net : ListArray → Network
+net list = network (listing list)
+
+abbrev pub groupsIn : ListArray → PlanArray → List ℕ
+groupsIn list plan = planIn plan (list .count) .groups
+
+abbrev pub sharesIn : ListArray → PlanArray → List ℕ
+sharesIn list plan = planIn plan (list .count) .shares
+
+-- place k of the array has f k, for each k below n
+abbrev pub Holds : List ℕ → (ℕ → ℕ) → ℕ → Type 0
+Holds array f n = (k : ℕ) → k < n → getD array k 0 ≡ f k
+
+-- a list and a plan whose counts fit the arrays, and whose depots are numbers from 0 to 63
+pub record Counted (list : ListArray) (plan : PlanArray) : Type 0 where
+  pub sites : list .count ≤ 512
+  pub groups : plan .count ≤ 64
+  pub range : T (depotsInRange (listing list))
+
+-- what rows 14 to 16 are tried on: a list and a plan that rows 12 and 13 do not refuse
+pub record Ready (list : ListArray) (plan : PlanArray) : Type 0 where
+  pub counted : Counted list plan
+  pub places : (length (list .sites) ≡ 512) × (length (plan .groups) ≡ 64)
+  pub listed : (d : ℕ) → union (groupsIn list plan) d ≡ net list .listed d
+
+-- the place of each depot, and q of each group
+pub record Tables (list : ListArray) (plan : PlanArray) (places sizes : List ℕ) : Type 0 where
+  pub length-places : length places ≡ 64
+  pub length-sizes : length sizes ≡ 64
+  pub place : Holds places (place (groupsIn list plan)) 64
+  pub size : Holds sizes (groupSize (net list) (groupsIn list plan)) (plan .count)
+
+-- a list whose sites' depots have a place below 64
+pub record Placed (list : ListArray) (places : List ℕ) : Type 0 where
+  pub sites : (list .count ≤ 512) × (length (list .sites) ≡ 512)
+  pub length-places : length places ≡ 64
+  pub depots : (i : ℕ) → i < list .count → (getD (list .sites) i noSite .first < 64) × (getD (list .sites) i noSite .second < 64)
+  pub low :
+      (i : ℕ) → i < list .count
+      → (getD places (getD (list .sites) i noSite .first) 0 < 64) × (getD places (getD (list .sites) i noSite .second) 0 < 64)
+
+-- W of each group, for the groups that the places are those of
+pub record Litres (list : ListArray) (places litres : List ℕ) : Type 0 where
+  pub is : (gs : List ℕ) → Holds places (place gs) 64 → Holds litres (groupLitres (net list) gs) 64
+  pub low : (k : ℕ) → k < 64 → getD litres k 0 ≤ 512 * 2 ^ 32
+
+-- site i: its depots' places, w × q and s
+pub record Entry (N : Network) (gs ss : List ℕ) (i : ℕ) (s : Site) (first second all part : ℕ) : Type 0 where
+  pub site : N .site i ≡ s
+  pub first-place : place gs (s .first) ≡ first
+  pub second-place : place gs (s .second) ≡ second
+  pub whole : whole N gs i ≡ all
+  pub share : firstShare ss i ≡ part
+
+-- what W and q are at most, so that no product overflows
+pub record Small (litres sizes : List ℕ) (n : ℕ) : Type 0 where
+  pub count : n ≤ 64
+  pub lengths : (length litres ≡ 64) × (length sizes ≡ 64)
+  pub litre : (k : ℕ) → k < n → getD litres k 0 ≤ 512 * 2 ^ 32
+  pub size : (k : ℕ) → k < n → getD sizes k 0 ≤ 576

@@ -1,0 +1,352 @@
+// Rows 12 to 16: a plan, as a value, checked against a list.
+use density::Site;
+use records::ListArray;
+use records::PlanArray;
+ghost use mathlib.Core.Path.{_≡_};
+ghost use mathlib.Core.Bool.{false, not, _||_};
+ghost use mathlib.Core.List.{List};
+ghost use Prim.Native.Nat.{ℕ, _+_, _*_, _<_, _≤_, _^_, max};
+ghost use lib.Dec.{T};
+ghost use lib.ListN.{length, getD, set, take};
+ghost use Rattle.sets.specs.Set.{_∪_, _∩_, has, setOf, isEmpty};
+ghost use Rattle.density.specs.Network.{Listing, Network, names, network, depotsInRange, size};
+ghost use Rattle.density.specs.Plan.{union, place, groupSize, groupLitres};
+ghost use Rattle.density.specs.Rows.{firstRow, groupsMeet, groupsUnlisted, shareBroken, sharesBroken, scaledLoad, loadsUneven, groupsRise, planRows};
+ghost use Rattle.records.specs.Values.{listing};
+ghost use Rattle.verify.specs.Verdict.{verdict};
+ghost use Rattle.verify.specs.Tables.{net, groupsIn, sharesIn, Holds, Counted, Ready, Tables, Placed, Litres, Entry, Small};
+
+// What the check answers: a refusal is the row's number.
+pub enum Verdict {
+    Passes,
+    Refused(u8),
+}
+
+// The set with the depots of a site.
+fn name(set: u64, s: Site) -> u64
+    requires { ⌜ (s .first < 64) × (s .second < 64) ⌝ }
+    ensures { λ r. ⌜ r ≡ setOf (has set ∪ names s) 64 ⌝ }
+{
+    sets::with(sets::with(set, s.first), s.second)
+}
+
+// The listed depots.
+pub fn listed(list: ListArray) -> u64
+    requires { ⌜ (list .count ≤ 512) × T (depotsInRange (listing list)) ⌝ }
+    ensures { λ r. ⌜ r ≡ setOf (net list .listed) 64 ⌝ }
+{
+    let mut set: u64 = 0;
+    let mut i: usize = 0;
+    while i < list.count {
+        let s = list.sites[i];
+        set = name(set, s);
+        i += 1;
+    }
+    set
+}
+
+// Is the group empty, or does it meet those before it, whose depots are seen?
+fn meets(group: u64, seen: u64) -> bool
+    ensures { λ r. ⌜ r ≡ (isEmpty (has group) 64 || not (isEmpty (has group ∩ has seen) 64)) ⌝ }
+{
+    if sets::is_empty(group) {
+        return true;
+    }
+    !sets::are_disjoint(group, seen)
+}
+
+// Row 12.
+fn groups_meet(groups: &[u64]) -> bool
+    ensures { λ r. ⌜ r ≡ groupsMeet (now (groups .entry)) ⌝ }
+{
+    let mut seen: u64 = 0;
+    let mut k: usize = 0;
+    while k < groups.len() {
+        let g = groups[k];
+        if meets(g, seen) {
+            return true;
+        }
+        seen = sets::union(seen, g);
+        k += 1;
+    }
+    false
+}
+
+// The depots of all groups together.
+fn union(groups: &[u64]) -> u64
+    ensures { λ r. ⌜ r ≡ setOf (union (now (groups .entry))) 64 ⌝ }
+{
+    let mut seen: u64 = 0;
+    let mut k: usize = 0;
+    while k < groups.len() {
+        seen = sets::union(seen, groups[k]);
+        k += 1;
+    }
+    seen
+}
+
+// Row 13.
+fn groups_unlisted(list: ListArray, groups: &[u64]) -> bool
+    requires { ⌜ (list .count ≤ 512) × T (depotsInRange (listing list)) ⌝ }
+    ensures { λ r. ⌜ r ≡ groupsUnlisted (net list) (now (groups .entry)) ⌝ }
+{
+    union(groups) != listed(list)
+}
+
+// The place of the first group that has the depot, or the number of groups.
+fn place(groups: &[u64], depot: u8) -> u8
+    requires { ⌜ length (now groups) ≤ 64 ⌝ }
+    ensures { λ r. ⌜ r ≡ place (now (groups .entry)) depot ⌝ }
+{
+    let mut k: u8 = 0;
+    while (k as usize) < groups.len() {
+        if sets::contains(groups[k as usize], depot) {
+            return k;
+        }
+        k += 1;
+    }
+    k
+}
+
+// The place of each depot.
+fn places(groups: &[u64]) -> [u8; 64]
+    requires { ⌜ length (now groups) ≤ 64 ⌝ }
+    ensures { λ r. ⌜ Holds r (place (now (groups .entry))) 64 ⌝ }
+{
+    let mut r = [0u8; 64];
+    let mut d: usize = 0;
+    while d < 64 {
+        r[d] = place(groups, d as u8);
+        d += 1;
+    }
+    r
+}
+
+// q of a set: "A group's size is the number of ones in its set."
+fn size(set: u64) -> u64
+    ensures { λ r. ⌜ ((l : Listing) → r ≡ size (network l) (has set)) ⌝ }
+{
+    sets::size(set)
+}
+
+// q of each group.
+fn sizes(groups: &[u64]) -> [u64; 64]
+    requires { ⌜ length (now groups) ≤ 64 ⌝ }
+    ensures { λ r. ⌜ ((l : Listing) → Holds r (groupSize (network l) (now (groups .entry))) (length (now (groups .entry)))) ⌝ }
+{
+    let mut r = [0u64; 64];
+    let mut k: usize = 0;
+    while k < groups.len() {
+        r[k] = size(groups[k]);
+        k += 1;
+    }
+    r
+}
+
+// The later of two places.
+fn later(a: u8, b: u8) -> u8
+    ensures { λ r. ⌜ r ≡ max a b ⌝ }
+{
+    if a < b {
+        return b;
+    }
+    a
+}
+
+// The litres of a site.
+fn litres_of(s: Site) -> u64
+    ensures { λ r. ⌜ (r ≡ s .litres) × (r < 2 ^ 32) ⌝ }
+{
+    s.litres as u64
+}
+
+// w × q of a site.
+fn whole(s: Site, places: &[u8], sizes: &[u64]) -> u64
+    requires { ⌜ (s .first < 64) × (s .second < 64) × (length (now places) ≡ 64) × (length (now sizes) ≡ 64) ⌝ }
+    requires { ⌜ (max (getD (now places) (s .first) 0) (getD (now places) (s .second) 0) < 64) × (getD (now sizes) (max (getD (now places) (s .first) 0) (getD (now places) (s .second) 0)) 0 ≤ 576) ⌝ }
+    ensures { λ r. ⌜ (r ≡ s .litres * getD (now (sizes .entry)) (max (getD (now (places .entry)) (s .first) 0) (getD (now (places .entry)) (s .second) 0)) 0) × (r < 2 ^ 42) ⌝ }
+{
+    let k = later(places[s.first as usize], places[s.second as usize]);
+    litres_of(s) * sizes[k as usize]
+}
+
+// Does a site's share break a rule? Its depots have the places a and b, all is w × q.
+fn is_broken(s: Site, a: u8, b: u8, all: u64, share: u64) -> bool
+    ensures { λ r. ⌜ ((N : Network) (gs ss : List ℕ) (i : ℕ) → Entry N gs ss i s a b all share → r ≡ shareBroken N gs ss i) ⌝ }
+{
+    if all < share {
+        return true;
+    }
+    if s.first == s.second {
+        return share != all;
+    }
+    if a < b {
+        return share != 0;
+    }
+    if b < a {
+        return share != all;
+    }
+    false
+}
+
+// Row 14.
+fn shares_broken(list: ListArray, plan: PlanArray, places: &[u8], sizes: &[u64]) -> bool
+    requires { ⌜ Ready list plan × Tables list plan (now places) (now sizes) ⌝ }
+    ensures { λ r. ⌜ r ≡ sharesBroken (net list) (groupsIn list plan) (sharesIn list plan) ⌝ }
+{
+    let mut i: usize = 0;
+    while i < list.count {
+        let s = list.sites[i];
+        let a = places[s.first as usize];
+        let b = places[s.second as usize];
+        let all = whole(s, places, sizes);
+        if is_broken(s, a, b, all, plan.shares[i]) {
+            return true;
+        }
+        i += 1;
+    }
+    false
+}
+
+// The array with an amount added at one place.
+fn add_load(loads: [u64; 64], d: u8, amount: u64) -> [u64; 64]
+    requires { ⌜ (d < 64) × (getD loads d 0 + amount < 2 ^ 64) ⌝ }
+    ensures { λ r. ⌜ r ≡ set loads d (getD loads d 0 + amount) ⌝ }
+{
+    let mut r = loads;
+    r[d as usize] = r[d as usize] + amount;
+    r
+}
+
+// W of each group, in one pass over the sites.
+fn litres(list: ListArray, places: &[u8]) -> [u64; 64]
+    requires { ⌜ Placed list (now places) ⌝ }
+    ensures { λ r. ⌜ Litres list (now (places .entry)) r ⌝ }
+{
+    let mut r = [0u64; 64];
+    let mut i: usize = 0;
+    while i < list.count {
+        let s = list.sites[i];
+        let k = later(places[s.first as usize], places[s.second as usize]);
+        let next = add_load(r, k, litres_of(s));
+        r = next;
+        i += 1;
+    }
+    r
+}
+
+// For each of the 64 depots, its scaled load.
+fn loads(list: ListArray, plan: PlanArray, places: &[u8], sizes: &[u64]) -> [u64; 64]
+    requires { ⌜ Ready list plan × Tables list plan (now places) (now sizes) ⌝ }
+    requires { ⌜ sharesBroken (net list) (groupsIn list plan) (sharesIn list plan) ≡ false ⌝ }
+    ensures { λ r. ⌜ Holds r (scaledLoad (net list) (groupsIn list plan) (sharesIn list plan)) 64 ⌝ }
+{
+    let mut r = [0u64; 64];
+    let mut i: usize = 0;
+    while i < list.count {
+        let s = list.sites[i];
+        let all = whole(s, places, sizes);
+        let share = plan.shares[i];
+        let one = add_load(r, s.first, share);
+        let both = add_load(one, s.second, all - share);
+        r = both;
+        i += 1;
+    }
+    r
+}
+
+// What a depot's scaled load is to be: W of its group, for each of its crews.
+fn level(w: u64) -> u64
+    ensures { λ r. ⌜ ((l : Listing) (d : ℕ) → r ≡ network l .crews d * w) ⌝ }
+{
+    w
+}
+
+// Row 15.
+fn loads_uneven(
+    list: ListArray,
+    plan: PlanArray,
+    places: &[u8],
+    sizes: &[u64],
+    litres: &[u64],
+) -> bool
+    requires { ⌜ Ready list plan × Tables list plan (now places) (now sizes) ⌝ }
+    requires { ⌜ sharesBroken (net list) (groupsIn list plan) (sharesIn list plan) ≡ false ⌝ }
+    requires { ⌜ (length (now litres) ≡ 64) × Litres list (now places) (now litres) ⌝ }
+    ensures { λ r. ⌜ r ≡ loadsUneven (net list) (groupsIn list plan) (sharesIn list plan) ⌝ }
+{
+    let all = listed(list);
+    let sums = loads(list, plan, places, sizes);
+    let mut d: u8 = 0;
+    while d < 64 {
+        if sets::contains(all, d) {
+            let w = litres[places[d as usize] as usize];
+            if sums[d as usize] != level(w) {
+                return true;
+            }
+        }
+        d += 1;
+    }
+    false
+}
+
+// Row 16.
+fn groups_rise(n: usize, litres: &[u64], sizes: &[u64]) -> bool
+    requires { ⌜ Small (now litres) (now sizes) n ⌝ }
+    ensures { λ r. ⌜ ((N : Network) (gs : List ℕ) → length gs ≡ n → Holds (now (litres .entry)) (groupLitres N gs) n → Holds (now (sizes .entry)) (groupSize N gs) n → r ≡ groupsRise N gs) ⌝ }
+{
+    let mut k: usize = 0;
+    while k + 1 < n {
+        if litres[k] * sizes[k + 1] <= litres[k + 1] * sizes[k] {
+            return true;
+        }
+        k += 1;
+    }
+    false
+}
+
+// Rows 12 to 14.
+pub fn form_row(list: ListArray, plan: PlanArray) -> Verdict
+    requires { ⌜ Counted list plan ⌝ }
+    ensures { λ r. ⌜ r ≡ verdict (firstRow (take 3 (planRows (net list) (groupsIn list plan) (sharesIn list plan)))) ⌝ }
+{
+    let n = plan.count;
+    let sets = plan.groups;
+    let groups = &sets[..n];
+    if groups_meet(groups) {
+        return Verdict::Refused(12);
+    }
+    if groups_unlisted(list, groups) {
+        return Verdict::Refused(13);
+    }
+    let at = places(groups);
+    let q = sizes(groups);
+    if shares_broken(list, plan, &at, &q) {
+        return Verdict::Refused(14);
+    }
+    Verdict::Passes
+}
+
+// Rows 12 to 16.
+pub fn plan_row(list: ListArray, plan: PlanArray) -> Verdict
+    requires { ⌜ Counted list plan ⌝ }
+    ensures { λ r. ⌜ r ≡ verdict (firstRow (planRows (net list) (groupsIn list plan) (sharesIn list plan))) ⌝ }
+{
+    let form = form_row(list, plan);
+    if let Verdict::Refused(row) = form {
+        return Verdict::Refused(row);
+    }
+    let n = plan.count;
+    let sets = plan.groups;
+    let groups = &sets[..n];
+    let at = places(groups);
+    let q = sizes(groups);
+    let w = litres(list, &at);
+    if loads_uneven(list, plan, &at, &q, &w) {
+        return Verdict::Refused(15);
+    }
+    if groups_rise(n, &w, &q) {
+        return Verdict::Refused(16);
+    }
+    Verdict::Passes
+}
