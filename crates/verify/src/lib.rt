@@ -109,7 +109,7 @@ fn place(groups: &[u64], depot: u8) -> u8
 }
 
 // The place of each depot.
-fn places(groups: &[u64]) -> [u8; 64]
+pub fn places(groups: &[u64]) -> [u8; 64]
     requires { ⌜ length (now groups) ≤ 64 ⌝ }
     ensures { λ r. ⌜ Holds r (place (now (groups .entry))) 64 ⌝ }
 {
@@ -130,7 +130,7 @@ fn size(set: u64) -> u64
 }
 
 // q of each group.
-fn sizes(groups: &[u64]) -> [u64; 64]
+pub fn sizes(groups: &[u64]) -> [u64; 64]
     requires { ⌜ length (now groups) ≤ 64 ⌝ }
     ensures { λ r. ⌜ ((l : Listing) → Holds r (groupSize (network l) (now (groups .entry))) (length (now (groups .entry)))) ⌝ }
 {
@@ -161,7 +161,7 @@ fn litres_of(s: Site) -> u64
 }
 
 // w × q of a site.
-fn whole(s: Site, places: &[u8], sizes: &[u64]) -> u64
+pub fn whole(s: Site, places: &[u8], sizes: &[u64]) -> u64
     requires { ⌜ (s .first < 64) × (s .second < 64) × (length (now places) ≡ 64) × (length (now sizes) ≡ 64) ⌝ }
     requires { ⌜ (max (getD (now places) (s .first) 0) (getD (now places) (s .second) 0) < 64) × (getD (now sizes) (max (getD (now places) (s .first) 0) (getD (now places) (s .second) 0)) 0 ≤ 576) ⌝ }
     ensures { λ r. ⌜ (r ≡ s .litres * getD (now (sizes .entry)) (max (getD (now (places .entry)) (s .first) 0) (getD (now (places .entry)) (s .second) 0)) 0) × (r < 2 ^ 42) ⌝ }
@@ -219,7 +219,7 @@ fn add_load(loads: [u64; 64], d: u8, amount: u64) -> [u64; 64]
 }
 
 // W of each group, in one pass over the sites.
-fn litres(list: ListArray, places: &[u8]) -> [u64; 64]
+pub fn litres(list: ListArray, places: &[u8]) -> [u64; 64]
     requires { ⌜ Placed list (now places) ⌝ }
     ensures { λ r. ⌜ Litres list (now (places .entry)) r ⌝ }
 {

@@ -1,0 +1,228 @@
+//! The engine's speed beside hand-written versions, on the largest lists of several families.
+//!
+//!     engine-bench [--rounds N] [--only TEXT]     medians of times
+//!     engine-bench --instructions [--only TEXT]   instructions per call, by valgrind's callgrind
+//!
+//! (`--calls WHICH FAMILY N` is what `--instructions` runs under valgrind.)
+
+mod hand;
+
+use std::hint::black_box;
+use std::process::{exit, Command};
+use std::time::Instant;
+
+use engine_tests::families::{Extent, FAMILIES, LARGEST};
+use engine_tests::records::{list_bytes, listed};
+use engine_tests::rng::Rng;
+use sulgheti::ffi;
+
+/// Calls under valgrind.
+const CALLS: usize = 10;
+
+/// How many calls are timed together, at least this long in nanoseconds.
+const BATCH: u128 = 40_000;
+
+fn main() {
+    let words: Vec<String> = std::env::args().skip(1).collect();
+    let (mut rounds, mut only, mut instructions) = (1001, String::new(), false);
+    let mut rest = words.iter().map(String::as_str);
+    while let Some(word) = rest.next() {
+        match word {
+            "--instructions" => instructions = true,
+            "--rounds" => rounds = figure(rest.next()),
+            "--only" => only = rest.next().unwrap_or_else(|| usage()).to_string(),
+            "--calls" => {
+                let (which, family) = (rest.next().unwrap_or_else(|| usage()), figure(rest.next()));
+                return calls(which, &inputs()[family], figure(rest.next()));
+            }
+            _ => usage(),
+        }
+    }
+    let inputs: Vec<Input> = inputs();
+    let chosen = inputs.iter().filter(|i| i.name.contains(&only));
+    let measure: &dyn Fn(&Input) -> [f64; 4] = if instructions { &counted } else { &|input| timed(input, rounds) };
+    let unit = if instructions { ["instructions", "instructions"] } else { ["ns", "µs"] };
+    let scale = if instructions { 1.0 } else { 1000.0 };
+    println!(
+        "| family | sites | depots | groups | check, {0} | by hand | ratio | make, {1} | by hand | ratio |",
+        unit[0], unit[1]
+    );
+    println!("|---|---|---|---|---|---|---|---|---|---|");
+    let (mut check, mut make) = (Vec::new(), Vec::new());
+    for input in chosen {
+        compare(input);
+        let [a, b, c, d] = measure(input);
+        check.push(a / b);
+        make.push(c / d);
+        let digits = if instructions { 0 } else { 1 };
+        println!(
+            "| {} | {} | {} | {} | {a:.0} | {b:.0} | {:.2} | {:.digits$} | {:.digits$} | {:.2} |",
+            input.name,
+            input.sites,
+            input.depots,
+            input.groups,
+            a / b,
+            c / scale,
+            d / scale,
+            c / d
+        );
+    }
+    println!("check: {}; make: {}", summary(&check), summary(&make));
+}
+
+fn usage() -> ! {
+    eprintln!("usage: engine-bench [--instructions] [--rounds N] [--only TEXT]");
+    exit(2)
+}
+
+fn figure(word: Option<&str>) -> usize {
+    word.and_then(|w| w.parse().ok()).unwrap_or_else(|| usage())
+}
+
+/// The geometric mean and the worst of some ratios.
+fn summary(ratios: &[f64]) -> String {
+    let mean = (ratios.iter().map(|r| r.ln()).sum::<f64>() / ratios.len() as f64).exp();
+    format!("ratio {mean:.2} in the mean, {:.2} at worst", ratios.iter().fold(0.0, |a, &b| b.max(a)))
+}
+
+/// A largest list and a plan of it.
+struct Input {
+    name: String,
+    number: usize,
+    sites: usize,
+    depots: u32,
+    groups: usize,
+    list: Vec<u8>,
+    plan: Vec<u8>,
+}
+
+/// The lists, the same bytes in every run, with plans of the hand-written Make.
+fn inputs() -> Vec<Input> {
+    let mut inputs: Vec<Input> = Vec::new();
+    for (name, family) in FAMILIES {
+        for litres in [3, 65_535] {
+            let sites = family(&mut Rng::new(1), Extent { litres, ..LARGEST });
+            let list = list_bytes(&sites);
+            if inputs.iter().any(|i| i.list == list) {
+                continue;
+            }
+            let mut plan = vec![0; sulgheti::PLAN_MAX];
+            let length = hand::make(&list, &mut plan);
+            plan.truncate(length as usize);
+            inputs.push(Input {
+                name: format!("{name}, to {}", sites.iter().map(|s| s.litres).max().unwrap_or(0)),
+                number: inputs.len(),
+                sites: sites.len(),
+                depots: listed(&sites).count_ones(),
+                groups: usize::from(plan[2]),
+                list,
+                plan,
+            });
+        }
+    }
+    inputs
+}
+
+/// Both versions of Make must give the same groups, and each plan must pass both versions of Check.
+fn compare(input: &Input) {
+    let mut plan = vec![0; input.plan.len()];
+    assert_eq!(engine_make(&input.list, &mut plan), plan.len() as i64, "the engine's make on {}", input.name);
+    let end = 5 + 10 * input.groups;
+    assert_eq!(plan[..end], input.plan[..end], "the groups of {}", input.name);
+    for p in [&plan, &input.plan] {
+        assert_eq!(engine_check(&input.list, p), 0, "the engine's check on {}", input.name);
+        assert_eq!(hand_check(&input.list, p), 0, "the hand-written check on {}", input.name);
+    }
+}
+
+fn engine_check(list: &[u8], plan: &[u8]) -> i64 {
+    // SAFETY: both slices are valid for their lengths.
+    unsafe { ffi::sulgheti_check(list.as_ptr(), list.len(), plan.as_ptr(), plan.len()) }
+}
+
+fn engine_make(list: &[u8], out: &mut [u8]) -> i64 {
+    // SAFETY: both slices are valid for their lengths, and `out` overlaps nothing.
+    unsafe { ffi::sulgheti_make(list.as_ptr(), list.len(), out.as_mut_ptr(), out.len()) }
+}
+
+/// Under a plain name, for callgrind.
+#[no_mangle]
+#[inline(never)]
+fn hand_check(list: &[u8], plan: &[u8]) -> i64 {
+    hand::check(list, plan)
+}
+
+/// Under a plain name, for callgrind.
+#[no_mangle]
+#[inline(never)]
+fn hand_make(list: &[u8], out: &mut [u8]) -> i64 {
+    hand::make(list, out)
+}
+
+/// Calls one version n times.
+fn calls(which: &str, input: &Input, n: usize) {
+    let mut out = vec![0; sulgheti::PLAN_MAX];
+    for _ in 0..n {
+        black_box(match which {
+            "sulgheti_check" => engine_check(black_box(&input.list), black_box(&input.plan)),
+            "hand_check" => hand_check(black_box(&input.list), black_box(&input.plan)),
+            "sulgheti_make" => engine_make(black_box(&input.list), black_box(&mut out)),
+            "hand_make" => hand_make(black_box(&input.list), black_box(&mut out)),
+            _ => usage(),
+        });
+    }
+}
+
+const VERSIONS: [&str; 4] = ["sulgheti_check", "hand_check", "sulgheti_make", "hand_make"];
+
+/// Nanoseconds per call of the four versions: medians of batches, the versions in turn.
+fn timed(input: &Input, rounds: usize) -> [f64; 4] {
+    let batches = VERSIONS.map(|which| {
+        let start = Instant::now();
+        calls(which, input, 20);
+        let each = (start.elapsed().as_nanos() / 20).max(1);
+        (BATCH / each).max(1) as usize
+    });
+    let mut times: [Vec<f64>; 4] = Default::default();
+    for _ in 0..rounds {
+        for (i, which) in VERSIONS.iter().enumerate() {
+            let start = Instant::now();
+            calls(which, input, batches[i]);
+            times[i].push(start.elapsed().as_nanos() as f64 / batches[i] as f64);
+        }
+    }
+    times.map(|mut t| {
+        t.sort_by(f64::total_cmp);
+        t[t.len() / 2]
+    })
+}
+
+/// Instructions per call of the four versions, with the functions that they call.
+fn counted(input: &Input) -> [f64; 4] {
+    VERSIONS.map(|which| under_valgrind(which, input) / CALLS as f64)
+}
+
+fn under_valgrind(which: &str, input: &Input) -> f64 {
+    let file = std::env::temp_dir().join(format!("engine-bench.{}.callgrind", std::process::id()));
+    let run = Command::new("valgrind")
+        .arg("--tool=callgrind")
+        .arg(format!("--toggle-collect={which}"))
+        .arg(format!("--callgrind-out-file={}", file.display()))
+        .arg(std::env::current_exe().expect("this program's path"))
+        .args(["--calls", which, &input.number.to_string(), &CALLS.to_string()])
+        .output()
+        .unwrap_or_else(|e| {
+            eprintln!("valgrind cannot be run: {e}");
+            exit(2)
+        });
+    let written = std::fs::read_to_string(&file).unwrap_or_default();
+    let _ = std::fs::remove_file(&file);
+    let total = written.lines().find_map(|l| l.strip_prefix("totals: ").or(l.strip_prefix("summary: ")));
+    match total.and_then(|t| t.trim().parse().ok()) {
+        Some(count) if run.status.success() => count,
+        _ => {
+            eprintln!("{}", String::from_utf8_lossy(&run.stderr));
+            exit(2)
+        }
+    }
+}

@@ -1,0 +1,4 @@
+// The first program, with no input at all.
+fn main() {
+    report::run();
+}

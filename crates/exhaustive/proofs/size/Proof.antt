@@ -1,0 +1,50 @@
+-- `exhaustive::size` is safe and ends: the loop's counter is at most 12.
+use Prim.Native.Nat.{_≤_, _-_}
+use native.Mathlib.Omega.{arith}
+use Rattle.exhaustive.proofs.size.Statement.{statement}
+use Rattle.exhaustive.proofs.size.Tie as tie
+
+abbrev Inv-loop : tie.InvT-loop
+Inv-loop set n₀ d₀ n d = d ≤ 12
+
+abbrev μ-loop : tie.MeasureT-loop
+μ-loop set n₀ d₀ n d = 12 - d
+
+loop-holds : tie.Need-loop-holds Inv-loop μ-loop
+loop-holds c = omega arith
+
+cast-if1 : tie.Need-cast-if1 Inv-loop μ-loop
+cast-if1 c = omega arith
+
+shr-if1 : tie.Need-shr-if1 Inv-loop μ-loop
+shr-if1 c = omega arith
+
+sum-requires : tie.Need-sum-requires Inv-loop μ-loop
+sum-requires c κs = tt
+
+add-d : tie.Need-add-d Inv-loop μ-loop
+add-d c = omega arith
+
+loop-less : tie.Need-loop-less Inv-loop μ-loop
+loop-less c = omega arith
+
+loop-again : tie.Need-loop-again Inv-loop μ-loop
+loop-again c = omega arith
+
+returns : tie.Need-returns Inv-loop μ-loop
+returns c = tt
+
+pub size-spec : {M : Type 1} → statement M
+size-spec =
+    tie.close
+    (tie.spec
+    Inv-loop
+    μ-loop
+    loop-holds
+    cast-if1
+    shr-if1
+    sum-requires
+    add-d
+    loop-less
+    loop-again
+    returns)

@@ -1,0 +1,159 @@
+// Document 01's lists with known plans, counted over all sets.
+use exhaustive::groups;
+use exhaustive::is_true;
+use libc::STDOUT_FILENO;
+use networks::no_groups;
+use networks::no_sites;
+use networks::with_group;
+use networks::with_share;
+use networks::with_site;
+use records::ListArray;
+use records::PlanArray;
+
+// What came out so far: how many answers there were, and how many of them were right.
+struct Tally {
+    asked: u64,
+    right: u64,
+}
+
+fn tallied(t: Tally, ok: bool) -> Tally {
+    let asked = std::num::wrapping_add_u64(t.asked, 1);
+    if ok {
+        return Tally {
+            asked,
+            right: std::num::wrapping_add_u64(t.right, 1),
+        };
+    }
+    Tally {
+        asked,
+        right: t.right,
+    }
+}
+
+fn one_site(a: u8, b: u8, w: u32) -> ListArray {
+    with_site(no_sites(), a, b, w)
+}
+
+fn two_sites(a: u8, b: u8, w: u32, c: u8, d: u8, v: u32) -> ListArray {
+    with_site(one_site(a, b, w), c, d, v)
+}
+
+fn one_group(g: u64) -> PlanArray {
+    with_group(no_groups(), g)
+}
+
+fn two_groups(g: u64, h: u64) -> PlanArray {
+    with_group(one_group(g), h)
+}
+
+fn shares(plan: PlanArray, s: u64, t: u64) -> PlanArray {
+    with_share(with_share(plan, 0, s), 1, t)
+}
+
+// The plan's groups are those of the count.
+fn same_groups(list: ListArray, plan: PlanArray) -> bool {
+    let found = groups(list);
+    if found.count != plan.count {
+        return false;
+    }
+    for k in 0..64 {
+        if found.groups[k] != plan.groups[k] {
+            return false;
+        }
+    }
+    true
+}
+
+// The list's groups are the plan's, and the plan is true or not, as expected.
+fn known(t: Tally, list: ListArray, plan: PlanArray) -> Tally {
+    tallied(tallied(t, same_groups(list, plan)), is_true(list, plan))
+}
+
+fn untrue(t: Tally, list: ListArray, plan: PlanArray) -> Tally {
+    tallied(t, !is_true(list, plan))
+}
+
+fn triangle() -> ListArray {
+    with_site(two_sites(0, 1, 1, 1, 2, 1), 0, 2, 1)
+}
+
+fn nine_sites() -> ListArray {
+    let six = with_site(
+        with_site(with_site(two_sites(0, 1, 1, 0, 2, 1), 0, 3, 1), 1, 2, 1),
+        1,
+        3,
+        1,
+    );
+    let nine = with_site(with_site(with_site(six, 2, 3, 1), 0, 4, 1), 1, 4, 1);
+    with_site(nine, 4, 5, 1)
+}
+
+// The starred lists.
+fn starred(start: Tally) -> Tally {
+    let mut t = start;
+    t = known(t, no_sites(), no_groups());
+    t = known(t, one_site(0, 1, 10), with_share(one_group(3), 0, 10));
+    t = known(t, one_site(0, 0, 7), with_share(one_group(1), 0, 7));
+    t = known(t, two_sites(0, 0, 4, 1, 1, 4), shares(one_group(3), 8, 8));
+    t = known(
+        t,
+        two_sites(0, 0, 4, 1, 1, 3),
+        shares(two_groups(1, 2), 4, 3),
+    );
+    t = known(
+        t,
+        two_sites(0, 0, 7, 0, 1, 6),
+        shares(two_groups(1, 2), 7, 0),
+    );
+    t = known(t, two_sites(0, 0, 6, 0, 1, 6), shares(one_group(3), 12, 0));
+    t = known(t, two_sites(0, 0, 5, 0, 1, 6), shares(one_group(3), 10, 1));
+    t = known(
+        t,
+        two_sites(0, 1, 9, 1, 2, 1),
+        shares(two_groups(3, 4), 9, 0),
+    );
+    known(t, triangle(), shares(one_group(7), 3, 3))
+}
+
+// False plans: the examples of rows 12 to 16, and others.
+fn false_plans(start: Tally) -> Tally {
+    let mut t = start;
+    let one = one_site(0, 1, 10);
+    t = untrue(t, one, with_share(two_groups(1, 3), 0, 10));
+    t = untrue(t, one, with_share(one_group(1), 0, 10));
+    t = untrue(t, one, with_share(one_group(3), 0, 21));
+    t = untrue(t, one, with_share(one_group(3), 0, 11));
+    t = untrue(t, one, with_share(two_groups(3, 0), 0, 10));
+    t = untrue(t, one, with_share(one_group(7), 0, 10));
+    t = untrue(
+        t,
+        two_sites(0, 0, 4, 1, 1, 4),
+        shares(two_groups(1, 2), 4, 4),
+    );
+    t = untrue(
+        t,
+        two_sites(0, 0, 4, 1, 1, 3),
+        shares(two_groups(2, 1), 4, 3),
+    );
+    t = untrue(t, two_sites(0, 0, 5, 0, 1, 6), shares(one_group(3), 9, 2));
+    t = untrue(
+        t,
+        two_sites(0, 0, 7, 0, 1, 6),
+        shares(two_groups(1, 2), 7, 6),
+    );
+    t = untrue(t, no_sites(), one_group(0));
+    t = untrue(t, nine_sites(), two_groups(15, 48));
+    untrue(t, triangle(), shares(one_group(7), 3, 2))
+}
+
+fn main() {
+    let mut t = Tally { asked: 0, right: 0 };
+    t = starred(t);
+    t = tallied(t, same_groups(nine_sites(), two_groups(31, 32)));
+    t = false_plans(t);
+    io::write_all(STDOUT_FILENO, b"known plans: ");
+    io::print_decimal(STDOUT_FILENO, t.right);
+    io::write_all(STDOUT_FILENO, b" of ");
+    io::print_decimal(STDOUT_FILENO, t.asked);
+    io::write_all(STDOUT_FILENO, b" right\n");
+}

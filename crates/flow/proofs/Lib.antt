@@ -1,0 +1,10 @@
+pub mod Laws
+pub mod Shift
+pub mod Pushing
+pub mod Discharging
+pub mod DischargingAll
+pub mod Scanning
+pub mod Reaching
+pub mod Seeding
+pub mod Relaxing
+pub mod Linking

@@ -1,0 +1,4 @@
+pub mod Array
+pub mod Search
+pub mod Moves
+pub mod Rounds

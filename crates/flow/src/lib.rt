@@ -1,0 +1,314 @@
+// Moves share between the depots of a set, along residual arcs, until no depot above its target can pass share on to one below.
+// A site i has two arcs: i at its first depot and i + 512 at its second.
+// ends[j] is the depot of arc j, or 64 where there is no site; share[j] is what that depot has of the site.
+// rank[d] is the place of depot d in the search order, 64 where it is not reached, 65 where it takes no part.
+ghost use mathlib.Core.Path.{_≡_};
+ghost use Prim.Native.Nat.{_-_, _<_, min, max};
+ghost use lib.ListN.{length};
+ghost use Rattle.flow.specs.Rounds.{Excess, Depots, Tested, Found, AllDischarged, Cleared, Seeded, Start, Relaxed};
+ghost use Rattle.flow.specs.Moves.{shift, Room, Loaded, Movable, Pushed, Ranked, ArcAt, ExcessPushed, Discharged};
+ghost use Rattle.flow.specs.Search.{reverse, Queue, Enqueued, Residual, Placed, Scanned, Reached, Linked, Linking, Prepended};
+
+// The arc of the same site at its other depot.
+fn reverse(j: usize) -> usize
+    requires { ⌜ j < 1024 ⌝ }
+    ensures { λ r. ⌜ (r ≡ reverse j) × (r < 1024) ⌝ }
+{
+    if j < 512 {
+        return j + 512;
+    }
+    j - 512
+}
+
+// Puts u at the end of the search order, if it has something to give, takes part and is not reached yet.
+fn enqueue(give: u64, u: usize, n: usize, order: &mut [usize], rank: &mut [usize]) -> usize
+    requires { ⌜ u < 64 ⌝ }
+    requires { ⌜ Queue n (now order) (now rank) ⌝ }
+    ensures { λ r. ⌜ Enqueued give u n (now (order .entry)) (now (rank .entry)) r (now (order .exit)) (now (rank .exit)) ⌝ }
+{
+    if give == 0 {
+        return n;
+    }
+    let place = rank[u];
+    if place == 64 {
+        rank[u] = n;
+        order[n] = u;
+        return n + 1;
+    }
+    n
+}
+
+// Enqueues the depot at the other end of each arc at v, where that depot has share on it.
+fn scan(
+    ends: &[usize],
+    chain: &[usize],
+    share: &[u64],
+    v: usize,
+    start: usize,
+    order: &mut [usize],
+    rank: &mut [usize],
+) -> usize
+    requires { ⌜ Residual (now ends) (now chain) (now share) ⌝ }
+    requires { ⌜ Placed (now rank) v ⌝ }
+    requires { ⌜ Queue start (now order) (now rank) ⌝ }
+    ensures { λ r. ⌜ Scanned (now (ends .entry)) (now (share .entry)) v start (now (order .entry)) (now (rank .entry)) r (now (order .exit)) (now (rank .exit)) ⌝ }
+{
+    let mut n = start;
+    let mut j = chain[1024 + v];
+    while 0 < j {
+        let p = reverse(j - 1);
+        n = enqueue(share[p], ends[p], n, order, rank);
+        j = chain[j - 1];
+    }
+    n
+}
+
+// All depots that can pass share on, arc by arc, to one of the first `start` of the order.
+fn reach(
+    ends: &[usize],
+    chain: &[usize],
+    share: &[u64],
+    start: usize,
+    order: &mut [usize],
+    rank: &mut [usize],
+) -> usize
+    requires { ⌜ Residual (now ends) (now chain) (now share) ⌝ }
+    requires { ⌜ Queue start (now order) (now rank) ⌝ }
+    ensures { λ r. ⌜ Reached (now (ends .entry)) (now (share .entry)) start (now (order .entry)) (now (rank .entry)) r (now (order .exit)) (now (rank .exit)) ⌝ }
+{
+    let mut n = start;
+    let mut k: usize = 0;
+    while k < n {
+        let v = order[k];
+        n = scan(ends, chain, share, v, n, order, rank);
+        k += 1;
+    }
+    n
+}
+
+// Moves m from place i to place k.
+fn transfer(xs: &mut [u64], i: usize, k: usize, m: u64)
+    requires { ⌜ Room (now xs) i k m ⌝ }
+    ensures { λ _. ⌜ now (xs .exit) ≡ shift (now (xs .entry)) i k m ⌝ }
+{
+    xs[i] = xs[i] - m;
+    xs[k] = xs[k] + m;
+}
+
+// Moves m of the share on arc j to its reverse.
+fn push(ends: &[usize], share: &mut [u64], load: &mut [u64], j: usize, m: u64)
+    requires { ⌜ Loaded (now ends) (now share) (now load) ⌝ }
+    requires { ⌜ Movable (now ends) (now share) (now load) j m ⌝ }
+    ensures { λ _. ⌜ Pushed (now (ends .entry)) (now (share .entry)) (now (load .entry)) j m (now (share .exit)) (now (load .exit)) ⌝ }
+{
+    let p = reverse(j);
+    let u = ends[j];
+    let v = ends[p];
+    transfer(share, j, p, m);
+    transfer(load, u, v, m);
+}
+
+fn least(a: u64, b: u64) -> u64
+    ensures { λ r. ⌜ r ≡ min a b ⌝ }
+{
+    if a < b {
+        return a;
+    }
+    b
+}
+
+// Moves what u has above its target along its arc j, as far as the share goes, if the other depot comes earlier.
+fn push_excess(
+    ends: &[usize],
+    rank: &[usize],
+    target: &[u64],
+    u: usize,
+    j: usize,
+    share: &mut [u64],
+    load: &mut [u64],
+)
+    requires { ⌜ ArcAt (now ends) (now rank) (now target) u j ⌝ }
+    requires { ⌜ Loaded (now ends) (now share) (now load) ⌝ }
+    ensures { λ _. ⌜ ExcessPushed (now (ends .entry)) (now (rank .entry)) (now (target .entry)) u j (now (share .entry)) (now (load .entry)) (now (share .exit)) (now (load .exit)) ⌝ }
+{
+    let v = ends[reverse(j)];
+    let here = rank[u];
+    let there = rank[v];
+    if here <= there {
+        return;
+    }
+    let have = load[u];
+    let goal = target[u];
+    if have <= goal {
+        return;
+    }
+    let give = share[j];
+    if give == 0 {
+        return;
+    }
+    let m = least(have - goal, give);
+    push(ends, share, load, j, m);
+}
+
+// Pushes the excess of u along each of its arcs.
+fn discharge(
+    ends: &[usize],
+    chain: &[usize],
+    rank: &[usize],
+    target: &[u64],
+    u: usize,
+    share: &mut [u64],
+    load: &mut [u64],
+)
+    requires { ⌜ Ranked (now ends) (now chain) (now rank) (now target) ⌝ }
+    requires { ⌜ Placed (now rank) u ⌝ }
+    requires { ⌜ Loaded (now ends) (now share) (now load) ⌝ }
+    ensures { λ _. ⌜ Discharged (now (ends .entry)) (now (rank .entry)) (now (target .entry)) u 0 (now (share .entry)) (now (load .entry)) (now (share .exit)) (now (load .exit)) ⌝ }
+{
+    let mut j = chain[1024 + u];
+    while 0 < j {
+        push_excess(ends, rank, target, u, j - 1, share, load);
+        j = chain[j - 1];
+    }
+}
+
+// Whether one of the first n of the order is above its target.
+fn any_excess(order: &[usize], n: usize, target: &[u64], load: &[u64]) -> bool
+    requires { ⌜ (length (now target) ≡ 64) × (length (now load) ≡ 64) ⌝ }
+    requires { ⌜ Depots (now order) n ⌝ }
+    ensures { λ r. ⌜ Tested (now (order .entry)) (now (target .entry)) (now (load .entry)) n r ⌝ }
+{
+    let mut k: usize = 0;
+    while k < n {
+        let d = order[k];
+        let goal = target[d];
+        let have = load[d];
+        if goal < have {
+            return true;
+        }
+        k += 1;
+    }
+    false
+}
+
+// Discharges the depots of the order from its end down to the first `start`.
+fn discharge_all(
+    ends: &[usize],
+    chain: &[usize],
+    order: &[usize],
+    rank: &[usize],
+    target: &[u64],
+    start: usize,
+    n: usize,
+    share: &mut [u64],
+    load: &mut [u64],
+)
+    requires { ⌜ Ranked (now ends) (now chain) (now rank) (now target) ⌝ }
+    requires { ⌜ Loaded (now ends) (now share) (now load) ⌝ }
+    requires { ⌜ Found (now ends) (now share) (now order) (now rank) (now target) (now load) start n ⌝ }
+    requires { ⌜ Excess (now order) (now target) (now load) start n ⌝ }
+    ensures { λ _. ⌜ AllDischarged (now (ends .entry)) (now (rank .entry)) (now (target .entry)) (now (share .entry)) (now (load .entry)) (now (share .exit)) (now (load .exit)) ⌝ }
+{
+    let mut k = n;
+    while start < k {
+        k -= 1;
+        let u = order[k];
+        discharge(ends, chain, rank, target, u, share, load);
+    }
+}
+
+fn most(a: usize, b: usize) -> usize
+    ensures { λ r. ⌜ r ≡ max a b ⌝ }
+{
+    if a < b {
+        return b;
+    }
+    a
+}
+
+// What `have` lacks of `goal`.
+fn deficit(have: u64, goal: u64) -> u64
+    ensures { λ r. ⌜ r ≡ goal - have ⌝ }
+{
+    if have < goal {
+        return goal - have;
+    }
+    0
+}
+
+// Takes every depot out of the order.
+fn clear(rank: &mut [usize])
+    requires { ⌜ length (now rank) ≡ 64 ⌝ }
+    ensures { λ _. ⌜ Cleared (now (rank .entry)) (now (rank .exit)) ⌝ }
+{
+    let mut d: usize = 0;
+    while d < 64 {
+        rank[d] = most(rank[d], 64);
+        d += 1;
+    }
+}
+
+// Begins the order with the depots below their targets.
+fn seeds(target: &[u64], load: &[u64], order: &mut [usize], rank: &mut [usize]) -> usize
+    requires { ⌜ (length (now target) ≡ 64) × (length (now load) ≡ 64) ⌝ }
+    requires { ⌜ Queue 0 (now order) (now rank) ⌝ }
+    ensures { λ r. ⌜ Seeded (now (target .entry)) (now (load .entry)) (now (rank .entry)) r (now (order .exit)) (now (rank .exit)) ⌝ }
+{
+    let mut n: usize = 0;
+    let mut d: usize = 0;
+    while d < 64 {
+        n = enqueue(deficit(load[d], target[d]), d, n, order, rank);
+        d += 1;
+    }
+    n
+}
+
+// Moves share until no depot above its target can pass share on to one below. The number of depots that can.
+pub fn relax(
+    ends: &[usize],
+    chain: &[usize],
+    target: &[u64],
+    share: &mut [u64],
+    load: &mut [u64],
+    order: &mut [usize],
+    rank: &mut [usize],
+) -> usize
+    requires { ⌜ Start (now ends) (now chain) (now target) (now order) (now rank) ⌝ }
+    requires { ⌜ Loaded (now ends) (now share) (now load) ⌝ }
+    ensures { λ r. ⌜ Relaxed (now (ends .entry)) (now (target .entry)) (now (rank .entry)) (now (share .entry)) (now (load .entry)) r (now (rank .exit)) (now (share .exit)) (now (load .exit)) ⌝ }
+{
+    loop {
+        clear(rank);
+        let start = seeds(target, load, order, rank);
+        let n = reach(ends, chain, share, start, order, rank);
+        let more = any_excess(order, n, target, load);
+        if !more {
+            return n;
+        }
+        discharge_all(ends, chain, order, rank, target, start, n, share, load);
+    }
+}
+
+// Puts arc j before the others at depot e.
+fn prepend(e: usize, j: usize, chain: &mut [usize])
+    requires { ⌜ (j < 1024) × (length (now chain) ≡ 1088) ⌝ }
+    ensures { λ _. ⌜ Prepended e j (now (chain .entry)) (now (chain .exit)) ⌝ }
+{
+    if 64 <= e {
+        return;
+    }
+    chain[j] = chain[1024 + e];
+    chain[1024 + e] = j + 1;
+}
+
+// Links the arcs at each depot, in a chain that has 0 for each depot.
+pub fn link(ends: &[usize], chain: &mut [usize])
+    requires { ⌜ Linking (now ends) (now chain) 0 ⌝ }
+    ensures { λ _. ⌜ Linked (now (ends .entry)) (now (chain .exit)) ⌝ }
+{
+    let mut j: usize = 0;
+    while j < 1024 {
+        prepend(ends[j], j, chain);
+        j += 1;
+    }
+}

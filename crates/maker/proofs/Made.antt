@@ -1,0 +1,148 @@
+-- What Make writes: from the plan made to its bytes; the length answered, and that the plan passes Check. Assumes nothing.
+use mathlib.Core.Path.{_≡_, refl, sym, ap, subst, _∙_}
+use mathlib.Core.Bool.{Bool, true, false, cond}
+use mathlib.Core.List.{List}
+use mathlib.Core.Option.{none}
+use Prim.Native.Nat.{ℕ, _+_, _*_, _<_, _≤_, _^_}
+use native.Mathlib.Nat.{lt-of-le-of-lt, lt-of-lt-of-le, le-refl, mul-le-mul, mul-lt-mul-of-pos-right}
+use native.Mathlib.Omega.{arith}
+use lib.Dec.{T, leb, lit<}
+use lib.ListN.{length, getD, take, drop}
+use lib.Seq.{take-at}
+use Rattle.density.specs.Network.{Listing, network, noSite, siteAt, depotsInRange}
+use Rattle.density.specs.Groups.{groupsOf}
+use Rattle.density.specs.Plan.{TruePlan, groupSize, carrier, group, whole, firstShare}
+use Rattle.density.proofs.Lists.{valid}
+use Rattle.density.proofs.Figures.{groups-few}
+use Rattle.density.proofs.Totals.{size-≤}
+use Rattle.density.proofs.Checks.{no-row}
+use Rattle.records.specs.declared.Edition.{Edition}
+use Rattle.records.specs.declared.ListArray.{ListArray}
+use Rattle.records.specs.declared.PlanArray.{PlanArray}
+use Rattle.records.specs.declared.ListRead.{ListRead}
+use Rattle.records.specs.declared.Read.the-variants.{Count}
+use Rattle.records.specs.declared.Read.the-variants as read
+use Rattle.records.specs.declared.Wrote.{Wrote}
+use Rattle.records.specs.declared.Wrote.the-variants.{Length, Refused}
+use Rattle.records.specs.Values.{listing, planIn}
+use Rattle.records.specs.Bytes.{Bytes}
+use Rattle.records.specs.Outcome.{Outcome, refused, passed}
+use Rattle.records.specs.Format.{edition1, readList}
+use Rattle.records.specs.Answer.{listArray, listRead}
+use Rattle.records.specs.Write.{planBytes, onto, Written, LaidOut}
+use Rattle.records.proofs.Records.{all-at}
+use Rattle.records.proofs.Buffers.{length-plan}
+use Rattle.records.proofs.Answers.{list-counted, list-refused, listing-array}
+use Rattle.records.proofs.RoundTrip.{Marked, Good, list-good, list-depots, list-few, laid-read}
+use Rattle.judge.specs.Check.{checkRow}
+use Rattle.maker.specs.Planned.{Planned}
+use Rattle.maker.specs.Make.{PlanWritten, Made}
+
+-- the shares of a true plan have the edition's width, where w × q has: w has the width of litres, and q is at most 64
+share-fits : (e : Edition) (l : Listing) (gs ss : List ℕ) → 256 ^ e .litres * 64 ≤ 256 ^ e .share
+    → ((i : ℕ) → i < length (l .sites) → siteAt l i .litres < 256 ^ e .litres) → TruePlan (network l) gs ss
+    → (i : ℕ) → i < length ss → getD ss i 0 < 256 ^ e .share
+unfolding network firstShare whole groupSize
+share-fits e l gs ss wide small t i k =
+    let j : i < length (l .sites) = subst (λ n. i < n) (t .form .each) k in
+    let q = groupSize (network l) gs (carrier gs (siteAt l i)) in
+    let few : q ≤ 64 = size-≤ (network l) (group gs (carrier gs (siteAt l i))) 1 (λ d. le-refl 1) in
+    lt-of-lt-of-le (lt-of-le-of-lt (t .shares .rules i j .bound) (lt-of-le-of-lt (mul-le-mul (le-refl (siteAt l i .litres)) few) (mul-lt-mul-of-pos-right (small i j) (lit< tt)))) wide
+
+-- the plan made of a list that was read, written
+made-from : (e : Edition) (s : List ℕ) {l : Listing} (p : PlanArray) {n : ℕ} (out last : List ℕ) (r : Wrote)
+    → 256 ^ e .litres * 64 ≤ 256 ^ e .share → Bytes s → readList e 512 s ≡ passed l → length (l .sites) ≡ n → Planned (listArray l) p
+    → Written (planBytes e (planIn p n)) out r last → Made e (readList e 512 s) out r last
+made-from e s {l = l} p {n = n} out last r wide b h c m w =
+    rw h
+    (record {
+      shares = take n (p .shares);
+      plan = true-plan;
+      fits = share-fits e l (groupsOf (network l)) (take n (p .shares)) wide (λ i k. all-at (Good e) noSite (l .sites) (list-good e 512 s b h) i k .fits) true-plan;
+      written = subst (λ (gs : List ℕ). Written (planBytes e (record { groups = gs; shares = take n (p .shares) })) out r last) groups-are w;
+    })
+  where
+    groups-are : take (p .count) (p .groups) ≡ groupsOf (network l)
+    groups-are = m .groups-are ∙ ap (λ (k : Listing). groupsOf (network k)) (listing-array l)
+
+    true-plan : TruePlan (network l) (groupsOf (network l)) (take n (p .shares))
+    true-plan =
+        subst (λ (gs : List ℕ). TruePlan (network l) gs (take n (p .shares))) groups-are
+        (subst (λ (k : Listing). TruePlan (network k) (take (p .count) (p .groups)) (take n (p .shares))) (listing-array l)
+        (subst (λ (k : ℕ). TruePlan (network (listing (listArray l))) (take (p .count) (p .groups)) (take k (p .shares))) c (m .plan)))
+
+-- the reader's answer, a count: a list was read
+module _ (e : Edition) (s : List ℕ) (x : ListRead) (n : ℕ) (is : x ≡ listRead (readList e 512 s)) (count : x .answer ≡ Count n) where
+  found : (l : Listing) × (readList e 512 s ≡ passed l) × (length (l .sites) ≡ n) × (x .list ≡ listArray l)
+  found =
+      let k = list-counted (readList e 512 s) (sym count ∙ ap (λ (y : ListRead). y .answer) is) in
+      (k .0, k .1, k .2, ap (λ (y : ListRead). y .list) is ∙ k .3)
+
+  -- what making a plan asks of it
+  pub in-range : (x .list .count ≤ 512) × T (depotsInRange (listing (x .list)))
+  in-range =
+      subst (λ (y : ListArray). (y .count ≤ 512) × T (depotsInRange (listing y))) (sym (found .3))
+      (list-few e 512 s (found .1) .0, subst (λ (l : Listing). T (depotsInRange l)) (sym (listing-array (found .0))) (list-depots e 512 s (found .1)))
+
+  pub few-sites : n ≤ 512
+  few-sites = subst (λ (k : ℕ). k ≤ 512) (found .2) (list-few e 512 s (found .1) .0)
+
+  pub made : (p : PlanArray) (out last : List ℕ) (r : Wrote) → 256 ^ e .litres * 64 ≤ 256 ^ e .share → Bytes s → Planned (x .list) p
+      → Written (planBytes e (planIn p n)) out r last → Made e (readList e 512 s) out r last
+  made p out last r wide b m w = made-from e s p out last r wide b (found .1) (found .2) (subst (λ (y : ListArray). Planned y p) (found .3) m) w
+
+-- the reader's answer, a row: the refusal is handed on, and the buffer is as before
+pub refusal-made : (e : Edition) (s : List ℕ) (x : ListRead) (n : ℕ) (out : List ℕ) (r : Wrote) → x ≡ listRead (readList e 512 s) → x .answer ≡ read.Refused n
+    → r ≡ Refused n → Made e (readList e 512 s) out r out
+refusal-made e s x n out r is row h =
+    let k : readList e 512 s ≡ refused n = list-refused (readList e 512 s) (sym row ∙ ap (λ (y : ListRead). y .answer) is) in
+    rw k (h, refl)
+
+-- the plan's length, "5 + 10 × groups + 6 × sites"
+abbrev pub planLength : Listing → ℕ
+planLength l = 5 + 10 * length (groupsOf (network l)) + 6 * length (l .sites)
+
+-- "answers the plan's length", or row 20 where the buffer is shorter
+pub made-answer : (s : List ℕ) {l : Listing} (out last : List ℕ) (r : Wrote) → readList edition1 512 s ≡ passed l → Made edition1 (readList edition1 512 s) out r last
+    → r ≡ cond (leb (planLength l) (length out)) (Length (planLength l)) (Refused 20)
+unfolding network
+made-answer s {l = l} out last r h m =
+    let p : PlanWritten edition1 l out r last = subst (λ (o : Outcome Listing). Made edition1 o out r last) h m in
+    subst (λ (n : ℕ). r ≡ cond (leb n (length out)) (Length n) (Refused 20))
+    (length-plan edition1 (record { groups = groupsOf (network l); shares = p .shares }) ∙ ap (λ (n : ℕ). 5 + 10 * length (groupsOf (network l)) + 6 * n) (each l (p .plan)))
+    (p .written .answer)
+  where
+    each : (l : Listing) {gs ss : List ℕ} → TruePlan (network l) gs ss → length ss ≡ length (l .sites)
+    each l t = t .form .each
+
+-- what an answered length says of the buffer
+front : (bytes out last : List ℕ) (n : ℕ) → Written bytes out (Length n) last → take n last ≡ bytes
+front bytes out last n w = split (leb (length bytes) (length out)) (w .answer) (w .buffer)
+  where
+    split : (t : Bool) → Length n ≡ cond t (Length (length bytes)) (Refused 20) → last ≡ cond t (onto bytes out) out → take n last ≡ bytes
+    split false a b = let z : _≡_ {A = ℕ} 0 1 = cc in absurd (omega arith)
+    split true a b = let k : length bytes ≡ n = cc in rw b (take-at bytes (drop (length bytes) out) n k)
+
+-- "the plan passes": Check refuses no plan that was made
+pub made-passes : (e : Edition) → Marked e → (s out last : List ℕ) (n : ℕ) → Made e (readList e 512 s) out (Length n) last → checkRow e s (take n last) ≡ none
+unfolding checkRow network
+made-passes e marks s out last n m = by-list (readList e 512 s) refl m
+  where
+    judge : (l : Listing) → readList e 512 s ≡ passed l → PlanWritten e l out (Length n) last → checkRow e s (take n last) ≡ none
+    judge l h p =
+        let N = network l in
+        let gs = groupsOf N in
+        let ok = valid l (list-depots e 512 s h) in
+        let laid : LaidOut e l (record { groups = gs; shares = p .shares }) (take n last) =
+        record {
+          few = groups-few N ok gs (p .plan .groups);
+          sets = p .plan .form .sets;
+          each = p .plan .form .each;
+          fits = p .fits;
+          bytes-are = front _ out last n (p .written);
+        } in
+        rw (h, laid-read e marks l (list-few e 512 s h .0) laid, no-row N gs (p .shares) ok (p .plan .form) .1 (p .plan))
+
+    by-list : (o : Outcome Listing) → readList e 512 s ≡ o → Made e o out (Length n) last → checkRow e s (take n last) ≡ none
+    by-list (refused k) h p = let q = p .0 in let z : _≡_ {A = ℕ} 0 1 = cc in absurd (omega arith)
+    by-list (passed l) h p = judge l h p

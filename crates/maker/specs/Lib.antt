@@ -1,0 +1,6 @@
+pub mod Outcome
+pub mod Lay
+pub mod Attempt
+pub mod Arrays
+pub mod Planned
+pub mod Make

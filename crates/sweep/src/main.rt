@@ -1,0 +1,199 @@
+// Check and Make beside the plain count over all sets: every small list, and random ones.
+use exhaustive::groups;
+use exhaustive::is_true;
+use libc::STDOUT_FILENO;
+use networks::random;
+use networks::small;
+use networks::variant;
+use networks::variants;
+use records::ListArray;
+use records::PlanArray;
+use records::Read;
+use records::Wrote;
+use verify::Verdict;
+
+// What came out: lists, plans of Make that the count finds false or grouped otherwise, plans judged, those that are true, and
+// those of which the check and the count say different things.
+struct Tally {
+    lists: u64,
+    unfit: u64,
+    plans: u64,
+    truths: u64,
+    differ: u64,
+}
+
+// One more, where it is so.
+fn more(n: u64, b: bool) -> u64 {
+    if b {
+        return std::num::wrapping_add_u64(n, 1);
+    }
+    n
+}
+
+fn passes(list: &[u8], plan: &[u8]) -> bool {
+    match judge::check(list, plan) {
+        Verdict::Passes => true,
+        Verdict::Refused(_) => false,
+    }
+}
+
+// The length of a record written, or more than any buffer here has.
+fn length(w: Wrote) -> usize {
+    match w {
+        Wrote::Length(n) => n,
+        Wrote::Refused(_) => 65536,
+    }
+}
+
+fn write_list(list: ListArray, out: &mut [u8]) -> usize {
+    if 512 < list.count {
+        return 65536;
+    }
+    length(records::write::list(records::edition1(), list, out))
+}
+
+fn write_plan(list: ListArray, plan: PlanArray, out: &mut [u8]) -> usize {
+    if 512 < list.count {
+        return 65536;
+    }
+    if 64 < plan.count {
+        return 65536;
+    }
+    length(records::write::plan(records::edition1(), plan, list.count, out))
+}
+
+// One plan: the check passes it exactly if the count finds it true.
+fn judged(t: Tally, list: ListArray, bytes: &[u8], plan: PlanArray) -> Tally {
+    let mut out = [0u8; 1024];
+    let n = write_plan(list, plan, &mut out);
+    if 1024 < n {
+        return t;
+    }
+    let passed = passes(bytes, &out[..n]);
+    let found = is_true(list, plan);
+    Tally {
+        lists: t.lists,
+        unfit: t.unfit,
+        plans: more(t.plans, true),
+        truths: more(t.truths, found),
+        differ: more(t.differ, passed != found),
+    }
+}
+
+// The plan that Make writes, read again; no groups where there is none.
+fn made(list: ListArray, bytes: &[u8]) -> PlanArray {
+    let mut out = [0u8; 1024];
+    let none = networks::no_groups();
+    if 512 < list.count {
+        return none;
+    }
+    let n = length(maker::make(bytes, &mut out));
+    if 1024 < n {
+        return none;
+    }
+    let r = records::plan::read(records::edition1(), list.count, &out[..n]);
+    r.plan
+}
+
+fn same_groups(a: PlanArray, b: PlanArray) -> bool {
+    if a.count != b.count {
+        return false;
+    }
+    for k in 0..64 {
+        if a.groups[k] != b.groups[k] {
+            return false;
+        }
+    }
+    true
+}
+
+// Near misses of a plan, one of each five.
+fn near_misses(t: Tally, list: ListArray, bytes: &[u8], plan: PlanArray, from: usize) -> Tally {
+    let most = variants(list, plan);
+    let mut sum = t;
+    for i in 0..80usize {
+        let k = i * 5 + from % 5;
+        if k < most {
+            let next = judged(sum, list, bytes, variant(list, plan, k));
+            sum = next;
+        }
+    }
+    sum
+}
+
+// A list whose plan of Make is true with the groups of the count, or not.
+fn counted(t: Tally, fit: bool) -> Tally {
+    Tally {
+        lists: more(t.lists, true),
+        unfit: more(t.unfit, !fit),
+        plans: t.plans,
+        truths: t.truths,
+        differ: t.differ,
+    }
+}
+
+fn is_fit(list: ListArray, plan: PlanArray) -> bool {
+    if is_true(list, plan) {
+        return same_groups(plan, groups(list));
+    }
+    false
+}
+
+// One list, as bytes: Make's plan, and near misses of it.
+fn swept_bytes(t: Tally, list: ListArray, bytes: &[u8], from: usize) -> Tally {
+    let plan = made(list, bytes);
+    let first = judged(counted(t, is_fit(list, plan)), list, bytes, plan);
+    near_misses(first, list, bytes, plan, from)
+}
+
+fn swept(t: Tally, list: ListArray, from: usize) -> Tally {
+    let mut bytes = [0u8; 128];
+    let n = write_list(list, &mut bytes);
+    if 128 < n {
+        return t;
+    }
+    swept_bytes(t, list, &bytes[..n], from)
+}
+
+fn swept_small() -> Tally {
+    let mut sum = Tally {
+        lists: 0,
+        unfit: 0,
+        plans: 0,
+        truths: 0,
+        differ: 0,
+    };
+    for n in 0..46376usize {
+        let next = swept(sum, small(n), n);
+        sum = next;
+    }
+    sum
+}
+
+fn swept_random(t: Tally) -> Tally {
+    let mut sum = t;
+    for k in 0..600usize {
+        let next = swept(sum, random(7, k as u64), k);
+        sum = next;
+    }
+    sum
+}
+
+fn line(name: &[u8], n: u64) {
+    io::write_all(STDOUT_FILENO, name);
+    io::print_decimal(STDOUT_FILENO, n);
+    io::write_all(STDOUT_FILENO, b"\n");
+}
+
+fn print(t: Tally) {
+    line(b"lists ", t.lists);
+    line(b"unfit plans of make ", t.unfit);
+    line(b"plans judged ", t.plans);
+    line(b"true ", t.truths);
+    line(b"differ ", t.differ);
+}
+
+fn main() {
+    let t = swept_random(swept_small());
+    print(t);
+}

@@ -1,0 +1,37 @@
+#!/usr/bin/env bash
+# Tests of the static library from Rust and from C.
+#
+#     tests/run.sh [--cases N] [--seed S]
+#
+# Builds target/staticlib/libengine.a by `rt staticlib engine`, unless it is there and newer than
+# everything under crates/. With SULGHETI_LIB set, the archive in that folder is tested instead.
+# Needs cargo and a C compiler; no network. Exit status 0: all passed.
+set -euo pipefail
+[ -z "${SULGHETI_LIB:-}" ] || SULGHETI_LIB=$(cd "$SULGHETI_LIB" && pwd)
+cd "$(dirname "$0")/.."
+for tool in cargo "${CC:-cc}"; do
+    command -v "$tool" >/dev/null || { echo "tests/run.sh: $tool is not installed" >&2; exit 2; }
+done
+mkdir -p target
+
+if [ -z "${SULGHETI_LIB:-}" ]; then
+    SULGHETI_LIB=$PWD/target/staticlib
+    archive=$SULGHETI_LIB/libengine.a
+    if [ ! -f "$archive" ] || [ -n "$(find crates crates.txt -newer "$archive" -print -quit)" ]; then
+        rt staticlib engine >target/staticlib.log 2>&1 || { cat target/staticlib.log; exit 1; }
+        tail -n 1 target/staticlib.log
+    fi
+fi
+
+export SULGHETI_LIB
+
+# the C program
+"${CC:-cc}" -std=c99 -Wall -Wextra -Werror -O2 -Iinclude tests/c/check_t.c "$SULGHETI_LIB/libengine.a" -o target/check_t
+target/check_t || { echo "check_t: failed, status $?"; exit 1; }
+echo "check_t: T's plan passes from C"
+
+# the wrapper's example, then the cases
+export CARGO_TARGET_DIR=$PWD/target/cargo
+cargo test --offline --quiet --manifest-path rust/Cargo.toml >target/wrapper.log 2>&1 || { cat target/wrapper.log; exit 1; }
+cargo build --offline --quiet --release --manifest-path tests/Cargo.toml
+exec "$CARGO_TARGET_DIR/release/engine-tests" "$@"

@@ -1,0 +1,261 @@
+//! Damage to a list and a plan, by row: each function spoils what one row is about.
+
+use crate::records::{listed, members, Plan, Site};
+use crate::rng::Rng;
+
+/// A list and a plan laid out for it, as values. Offsets of the bytes follow from their counts.
+pub struct Base {
+    pub sites: Vec<Site>,
+    pub plan: Plan,
+}
+
+impl Base {
+    fn site_at(&self, i: usize) -> usize {
+        4 + 6 * i
+    }
+
+    fn group_at(&self, k: usize) -> usize {
+        5 + 10 * k
+    }
+
+    fn share_at(&self, i: usize) -> usize {
+        5 + 10 * self.plan.groups.len() + 6 * i
+    }
+
+    fn place(&self, depot: u8) -> usize {
+        self.plan.groups.iter().position(|g| g >> depot & 1 == 1).expect("a grouped depot")
+    }
+
+    /// The places of a site's two depots and its litres at the scale of the carrying group.
+    fn carried(&self, s: &Site) -> (usize, usize, u32) {
+        let (first, second) = (self.place(s.first), self.place(s.second));
+        let q = self.plan.groups[first.max(second)].count_ones();
+        (first, second, u32::from(s.litres) * q)
+    }
+}
+
+fn put(bytes: &mut [u8], at: usize, with: &[u8]) {
+    if at + with.len() <= bytes.len() {
+        bytes[at..at + with.len()].copy_from_slice(with);
+    }
+}
+
+/// Changes one of two mark bytes.
+fn spoil_mark(rng: &mut Rng, bytes: &mut [u8], at: usize) {
+    let at = at + rng.below(2);
+    if at < bytes.len() {
+        bytes[at] ^= 1 + rng.below(255) as u8;
+    }
+}
+
+/// Makes the bytes longer or shorter by a few, or cuts them anywhere down to `least`.
+fn spoil_length(rng: &mut Rng, bytes: &mut Vec<u8>, least: usize) {
+    match rng.below(4) {
+        0 if bytes.len() > least => bytes.truncate(bytes.len() - 1),
+        1 if bytes.len() > least => bytes.truncate(rng.from_to(least, bytes.len() - 1)),
+        2 => bytes.push(rng.byte()),
+        _ => {
+            for _ in 0..rng.from_to(1, 20) {
+                bytes.push(rng.byte());
+            }
+        }
+    }
+}
+
+/// Spoils what `row` is about, for rows 1 to 15, in the bytes of `base` or in bytes that a later row's
+/// damage has changed. False where this base has nothing to spoil.
+pub fn spoil(rng: &mut Rng, row: u8, base: &Base, list: &mut Vec<u8>, plan: &mut Vec<u8>) -> bool {
+    let (sites, groups) = (base.sites.len(), base.plan.groups.len());
+    match row {
+        1 => {
+            if rng.percent(30) {
+                list.truncate(rng.below(4));
+            } else {
+                spoil_mark(rng, list, 0);
+            }
+        }
+        2 => {
+            let count = *rng.pick(&[513, 514, 600, 0x0300, 0x8000, 0xFFFF]);
+            put(list, 2, &(count as u16).to_le_bytes());
+            // sometimes with all the records that it announces
+            if list.len() >= 10 && count <= 600 && rng.percent(50) {
+                let record = list[4..10].to_vec();
+                while list.len() < 4 + 6 * count {
+                    list.extend(&record);
+                }
+            }
+        }
+        3 => {
+            if rng.percent(30) {
+                let count = if rng.percent(50) && sites > 0 { sites - 1 } else { sites + 1 };
+                if count > 512 {
+                    return false;
+                }
+                put(list, 2, &(count as u16).to_le_bytes());
+            } else {
+                spoil_length(rng, list, 4);
+            }
+        }
+        4..=6 => {
+            if sites == 0 {
+                return false;
+            }
+            let at = base.site_at(rng.below(sites));
+            match row {
+                4 => spoil_mark(rng, list, at),
+                5 => put(list, at + 2 + rng.below(2), &[rng.from_to(64, 255) as u8]),
+                _ => put(list, at + 4, &[0, 0]),
+            }
+        }
+        7 => {
+            if rng.percent(30) {
+                plan.truncate(rng.below(5));
+            } else {
+                spoil_mark(rng, plan, 0);
+            }
+        }
+        8 => {
+            let count = rng.from_to(65, 255);
+            put(plan, 2, &[count as u8]);
+            // sometimes with all the records that it announces
+            if rng.percent(50) {
+                let more = (groups..count).flat_map(|_| *b"GR\x01\0\0\0\0\0\0\0");
+                let at = base.share_at(0).min(plan.len());
+                plan.splice(at..at, more);
+            }
+        }
+        9 => {
+            let count = match rng.below(4) {
+                0 if sites > 0 => sites - 1,
+                1 => sites ^ 0x100,
+                2 => sites + 0x200,
+                _ => sites + 1,
+            };
+            put(plan, 3, &(count as u16).to_le_bytes());
+            if count == sites + 1 && rng.percent(50) {
+                plan.extend(b"SH\0\0\0\0");
+            }
+        }
+        10 => {
+            if rng.percent(30) {
+                let count = if rng.percent(50) && groups > 0 { groups - 1 } else { groups + 1 };
+                if count > 64 {
+                    return false;
+                }
+                put(plan, 2, &[count as u8]);
+            } else {
+                spoil_length(rng, plan, 5);
+            }
+        }
+        11 => {
+            if groups == 0 {
+                return false;
+            }
+            let at = if rng.percent(50) { base.group_at(rng.below(groups)) } else { base.share_at(rng.below(sites)) };
+            spoil_mark(rng, plan, at);
+        }
+        12 => {
+            if groups == 0 {
+                return false;
+            }
+            let k = rng.below(groups);
+            if k > 0 && rng.percent(70) {
+                // a depot of an earlier group as the bytes have it now
+                let earlier = base.group_at(rng.below(k)) + 2;
+                let depots: Vec<usize> = (0..64).filter(|d| plan[earlier + d / 8] >> (d % 8) & 1 == 1).collect();
+                let d = rng.pick(&depots);
+                plan[base.group_at(k) + 2 + d / 8] |= 1 << (d % 8);
+            } else {
+                put(plan, base.group_at(k) + 2, &[0; 8]);
+            }
+        }
+        13 => {
+            if groups == 0 {
+                return false;
+            }
+            let k = rng.below(groups);
+            let set = base.plan.groups[k];
+            let free = members(!listed(&base.sites));
+            let set = if set.count_ones() > 1 && (free.is_empty() || rng.percent(50)) {
+                set & !(1 << rng.pick(&members(set)))
+            } else if free.is_empty() {
+                return false;
+            } else {
+                set | 1 << rng.pick(&free)
+            };
+            put(plan, base.group_at(k) + 2, &set.to_le_bytes());
+        }
+        14 => {
+            if sites == 0 {
+                return false;
+            }
+            let i = rng.below(sites);
+            let s = &base.sites[i];
+            let (first, second, whole) = base.carried(s);
+            let fixed = s.first == s.second || first != second;
+            let share = match rng.below(3) {
+                0 if fixed => {
+                    let right = if first < second { 0 } else { whole };
+                    let wrong = rng.from_to(0, whole as usize) as u32;
+                    if wrong == right {
+                        whole - right
+                    } else {
+                        wrong
+                    }
+                }
+                1 => u32::MAX - rng.below(1000) as u32,
+                _ => whole + 1,
+            };
+            put(plan, base.share_at(i) + 2, &share.to_le_bytes());
+        }
+        15 => {
+            let open = |s: &&Site| s.first != s.second && base.place(s.first) == base.place(s.second);
+            if !base.sites.iter().any(|s| open(&s)) {
+                return false;
+            }
+            let i = loop {
+                let i = rng.below(sites);
+                if open(&&base.sites[i]) {
+                    break i;
+                }
+            };
+            let (_, _, whole) = base.carried(&base.sites[i]);
+            let share = base.plan.shares[i];
+            let other = match rng.below(3) {
+                0 if share < whole => share + 1,
+                1 if share > 0 => share - 1,
+                _ => rng.from_to(0, whole as usize) as u32,
+            };
+            let other = if other == share { whole - share } else { other };
+            let other = if other == share { share + 1 } else { other };
+            put(plan, base.share_at(i) + 2, &other.to_le_bytes());
+        }
+        _ => unreachable!("no damage for row {row}"),
+    }
+    true
+}
+
+/// The groups in another order in which every site is still carried by the same group, if there is
+/// one: the plan stays level, and row 16 refuses it.
+pub fn reordered(rng: &mut Rng, base: &Base) -> Option<Plan> {
+    let groups = &base.plan.groups;
+    let n = groups.len();
+    if n < 2 {
+        return None;
+    }
+    let tied = |j: usize, k: usize| {
+        base.sites.iter().any(|s| {
+            let both = 1u64 << s.first | 1u64 << s.second;
+            both & groups[j] != 0 && both & groups[k] != 0
+        })
+    };
+    let mut order: Vec<usize> = (0..n).collect();
+    for _ in 0..2 * n {
+        let k = rng.below(n - 1);
+        if !tied(order[k], order[k + 1]) {
+            order.swap(k, k + 1);
+        }
+    }
+    let swapped: Vec<u64> = order.iter().map(|&k| groups[k]).collect();
+    (swapped != *groups).then(|| Plan { groups: swapped, shares: base.plan.shares.clone() })
+}

@@ -1,0 +1,18 @@
+//! The engine beside an independent implementation of document 01.
+//!
+//! - `reference`: the reader and the rows, literally;
+//! - `decompose` over `flow`: the groups by minimum cuts and by a count over all sets, shares by a flow;
+//! - `families`, `known`: lists; `damage`, `near`: what is done to them and to their plans;
+//! - `lent`, `run`: calls with guard bytes, and the comparison.
+
+pub mod damage;
+pub mod decompose;
+pub mod families;
+pub mod flow;
+pub mod known;
+pub mod lent;
+pub mod near;
+pub mod records;
+pub mod reference;
+pub mod rng;
+pub mod run;

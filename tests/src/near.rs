@@ -1,0 +1,136 @@
+//! Near misses: plans that have the right form and are close to a true one. Some are true.
+
+use crate::decompose::{innermost_core, shares};
+use crate::records::{listed, members, Plan, Site};
+use crate::rng::Rng;
+
+/// The groups with shares as level as a flow can make them.
+fn levelled(sites: &[Site], groups: Vec<u64>) -> Plan {
+    let shares = shares(sites, &groups).0;
+    Plan { groups, shares }
+}
+
+/// One share moved, by one or by any amount.
+fn moved(rng: &mut Rng, plan: &Plan) -> Plan {
+    let mut plan = plan.clone();
+    let i = rng.below(plan.shares.len());
+    let s = plan.shares[i];
+    plan.shares[i] = match rng.below(4) {
+        0 => s.wrapping_add(1),
+        1 => s.wrapping_sub(1),
+        2 => s ^ 1 << rng.below(32),
+        _ => rng.from_to(0, 2 * s as usize + 1) as u32,
+    };
+    plan
+}
+
+/// Two shares moved against each other: still level where the sites are parallel.
+fn exchanged(rng: &mut Rng, sites: &[Site], plan: &Plan) -> Plan {
+    let mut plan = plan.clone();
+    let n = plan.shares.len();
+    let i = rng.below(n);
+    let parallel: Vec<usize> = (0..n)
+        .filter(|&j| j != i)
+        .filter(|&j| {
+            let (a, b) = (sites[i], sites[j]);
+            (a.first, a.second) == (b.first, b.second) || (a.first, a.second) == (b.second, b.first)
+        })
+        .collect();
+    let j = if parallel.is_empty() { rng.below(n) } else { *rng.pick(&parallel) };
+    let amount = rng.from_to(0, plan.shares[i] as usize) as u32;
+    plan.shares[i] -= amount;
+    if sites[i].first == sites[j].first {
+        plan.shares[j] = plan.shares[j].wrapping_add(amount);
+    } else {
+        plan.shares[j] = plan.shares[j].wrapping_sub(amount);
+    }
+    plan
+}
+
+/// Groups changed: merged, split, swapped, two depots exchanged, one depot moved.
+fn regrouped(rng: &mut Rng, groups: &[u64]) -> Vec<u64> {
+    let mut groups = groups.to_vec();
+    let n = groups.len();
+    let k = rng.below(n);
+    match rng.below(5) {
+        0 if n > 1 => {
+            let k = rng.below(n - 1);
+            groups[k] |= groups[k + 1];
+            groups.remove(k + 1);
+        }
+        1 if n > 1 => {
+            let k = rng.below(n - 1);
+            groups.swap(k, k + 1);
+        }
+        2 if n > 1 => {
+            let j = rng.below(n);
+            let (a, b) = (1u64 << rng.pick(&members(groups[j])), 1u64 << rng.pick(&members(groups[k])));
+            if j != k {
+                groups[j] = groups[j] & !a | b;
+                groups[k] = groups[k] & !b | a;
+            }
+        }
+        3 if n > 1 && groups[k].count_ones() > 1 => {
+            let a = 1u64 << rng.pick(&members(groups[k]));
+            groups[k] &= !a;
+            groups[(k + 1) % n] |= a;
+        }
+        _ => {
+            let part = groups[k] & rng.word();
+            if part != 0 && part != groups[k] && n < 64 {
+                groups[k] &= !part;
+                groups.insert(k + rng.below(2), part);
+            }
+        }
+    }
+    groups
+}
+
+/// The innermost core as the first group, then the groups without it.
+fn core_first(sites: &[Site], groups: &[u64]) -> Vec<u64> {
+    let core = innermost_core(sites);
+    let mut changed = vec![core];
+    changed.extend(groups.iter().map(|g| g & !core).filter(|&g| g != 0));
+    changed
+}
+
+/// Whole shares at the scale of the first depot's group, where the carrying group's is right.
+fn misscaled(plan: &Plan, sites: &[Site]) -> Plan {
+    let mut plan = plan.clone();
+    for (s, share) in sites.iter().zip(&mut plan.shares) {
+        let q = |d: u8| plan.groups.iter().find(|&g| g >> d & 1 == 1).map_or(1, |g| g.count_ones());
+        if *share == u32::from(s.litres) * q(s.second) {
+            *share = u32::from(s.litres) * q(s.first);
+        }
+    }
+    plan
+}
+
+/// A plan close to a true one of a list with at least one site.
+pub fn miss(rng: &mut Rng, sites: &[Site], plan: &Plan) -> Plan {
+    match rng.below(10) {
+        0..=2 => moved(rng, plan),
+        3 => exchanged(rng, sites, plan),
+        4 => Plan { groups: regrouped(rng, &plan.groups), shares: plan.shares.clone() },
+        5..=7 => levelled(sites, regrouped(rng, &plan.groups)),
+        8 => levelled(sites, core_first(sites, &plan.groups)),
+        _ => misscaled(plan, sites),
+    }
+}
+
+/// Next season's list: one site's litres changed, two sites exchanged, a site's ends exchanged or
+/// replaced. The old plan has the right form for it.
+pub fn next_season(rng: &mut Rng, sites: &[Site]) -> Vec<Site> {
+    let mut sites = sites.to_vec();
+    let n = sites.len();
+    let i = rng.below(n);
+    match rng.below(6) {
+        0 => sites[i].litres = sites[i].litres.saturating_add(1),
+        1 => sites[i].litres = (sites[i].litres - 1).max(1),
+        2 => sites.swap(i, rng.below(n)),
+        3 => sites[i] = Site { first: sites[i].second, second: sites[i].first, ..sites[i] },
+        4 => sites[i].second = *rng.pick(&members(listed(&sites))) as u8,
+        _ => sites[i].litres = rng.from_to(1, 65_535) as u16,
+    }
+    sites
+}

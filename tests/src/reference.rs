@@ -1,0 +1,165 @@
+//! Document 01's rows, read and tried literally: each row over all records before the next.
+
+use crate::records::Site;
+
+/// A set of depots: whether each is in it.
+pub type Depots = [bool; 64];
+
+/// The row that refuses a list, or its sites.
+pub fn read_list(list: &[u8]) -> Result<Vec<Site>, u8> {
+    if list.len() < 4 || list[..2] != [0x4C, 0x53] {
+        return Err(1);
+    }
+    let count = usize::from(list[2]) + 256 * usize::from(list[3]);
+    if count > 512 {
+        return Err(2);
+    }
+    if list.len() != 4 + 6 * count {
+        return Err(3);
+    }
+    let records: Vec<&[u8]> = list[4..].chunks(6).collect();
+    if records.iter().any(|r| r[..2] != [0x53, 0x54]) {
+        return Err(4);
+    }
+    if records.iter().any(|r| r[2] > 63 || r[3] > 63) {
+        return Err(5);
+    }
+    if records.iter().any(|r| r[4..] == [0, 0]) {
+        return Err(6);
+    }
+    Ok(records.iter().map(|r| Site { first: r[2], second: r[3], litres: u16::from_le_bytes([r[4], r[5]]) }).collect())
+}
+
+/// The row that refuses a plan's form for a list of `sites` sites, or its groups and shares.
+pub fn read_plan(plan: &[u8], sites: usize) -> Result<(Vec<Depots>, Vec<u64>), u8> {
+    if plan.len() < 5 || plan[..2] != [0x50, 0x4C] {
+        return Err(7);
+    }
+    let groups = usize::from(plan[2]);
+    if groups > 64 {
+        return Err(8);
+    }
+    let count = usize::from(plan[3]) + 256 * usize::from(plan[4]);
+    if count != sites {
+        return Err(9);
+    }
+    if plan.len() != 5 + 10 * groups + 6 * sites {
+        return Err(10);
+    }
+    let (front, back) = plan[5..].split_at(10 * groups);
+    if front.chunks(10).any(|r| r[..2] != [0x47, 0x52]) || back.chunks(6).any(|r| r[..2] != [0x53, 0x48]) {
+        return Err(11);
+    }
+    let sets = front.chunks(10).map(|r| {
+        let mut set = [false; 64];
+        for (d, member) in set.iter_mut().enumerate() {
+            *member = r[2 + d / 8] & (1 << (d % 8)) != 0;
+        }
+        set
+    });
+    let shares = back.chunks(6).map(|r| (0..4).map(|i| u64::from(r[2 + i]) << (8 * i)).sum());
+    Ok((sets.collect(), shares.collect()))
+}
+
+fn size(set: &Depots) -> u64 {
+    set.iter().filter(|&&member| member).count() as u64
+}
+
+/// The place of a depot's group.
+fn place(groups: &[Depots], depot: u8) -> usize {
+    groups.iter().position(|g| g[usize::from(depot)]).expect("a grouped depot")
+}
+
+/// A site is carried by the later of its depots' groups.
+fn carrier(groups: &[Depots], site: &Site) -> usize {
+    place(groups, site.first).max(place(groups, site.second))
+}
+
+/// Row 14 of one site.
+fn share_refused(groups: &[Depots], site: &Site, s: u64) -> bool {
+    let k = carrier(groups, site);
+    let whole = u64::from(site.litres) * size(&groups[k]);
+    s > whole
+        || site.first == site.second && s != whole
+        || place(groups, site.first) < k && s != 0
+        || place(groups, site.second) < k && s != whole
+}
+
+/// W of each group: the litres of the sites that it carries.
+fn litres(sites: &[Site], groups: &[Depots]) -> Vec<u64> {
+    let mut litres = vec![0; groups.len()];
+    for site in sites {
+        litres[carrier(groups, site)] += u64::from(site.litres);
+    }
+    litres
+}
+
+/// For each depot of each group, whether its shares from the sites that the group carries add up to W.
+fn level(sites: &[Site], groups: &[Depots], shares: &[u64]) -> bool {
+    let litres = litres(sites, groups);
+    let mut loads = vec![[0u64; 64]; groups.len()];
+    for (site, s) in sites.iter().zip(shares) {
+        let k = carrier(groups, site);
+        let whole = u64::from(site.litres) * size(&groups[k]);
+        loads[k][usize::from(site.first)] += s;
+        loads[k][usize::from(site.second)] += whole - s;
+    }
+    groups.iter().enumerate().all(|(k, g)| (0..64).all(|d| !g[d] || loads[k][d] == litres[k]))
+}
+
+/// The depots that some site names.
+fn named(sites: &[Site]) -> Depots {
+    let mut set = [false; 64];
+    for site in sites {
+        set[usize::from(site.first)] = true;
+        set[usize::from(site.second)] = true;
+    }
+    set
+}
+
+/// The first of rows 12 to 16 that refuses a plan, or 0.
+pub fn plan_row(sites: &[Site], groups: &[Depots], shares: &[u64]) -> u8 {
+    for (k, g) in groups.iter().enumerate() {
+        if size(g) == 0 || groups[..k].iter().any(|h| (0..64).any(|d| g[d] && h[d])) {
+            return 12;
+        }
+    }
+    let named = named(sites);
+    if (0..64).any(|d| named[d] != groups.iter().any(|g| g[d])) {
+        return 13;
+    }
+    if sites.iter().zip(shares).any(|(site, &s)| share_refused(groups, site, s)) {
+        return 14;
+    }
+    if !level(sites, groups, shares) {
+        return 15;
+    }
+    let litres = litres(sites, groups);
+    for k in 1..groups.len() {
+        if litres[k - 1] * size(&groups[k]) <= litres[k] * size(&groups[k - 1]) {
+            return 16;
+        }
+    }
+    0
+}
+
+/// Check's answer: 0 where it passes, otherwise the row.
+pub fn check(list: &[u8], plan: &[u8]) -> u8 {
+    let sites = match read_list(list) {
+        Ok(sites) => sites,
+        Err(row) => return row,
+    };
+    match read_plan(plan, sites.len()) {
+        Ok((groups, shares)) => plan_row(&sites, &groups, &shares),
+        Err(row) => row,
+    }
+}
+
+/// Whether a plan of the right form is true of the list with the given decomposition: its groups are
+/// those of the definition, its shares keep the rules and are level. Neither row 12, 13 nor 16 is used.
+pub fn is_true(sites: &[Site], decomposition: &[u64], groups: &[Depots], shares: &[u64]) -> bool {
+    let sets: Vec<u64> = groups.iter().map(|g| (0..64).map(|d| u64::from(g[d]) << d).sum()).collect();
+    sets == decomposition
+        && sites.iter().zip(shares).all(|(site, &s)| !share_refused(groups, site, s))
+        && level(sites, groups, shares)
+}

@@ -1,0 +1,177 @@
+//! One case: a call of the engine, compared with the reference.
+
+use crate::decompose::{by_all_sets, by_cuts, shares};
+use crate::lent::{self, Lent};
+use crate::records::{hex, list_bytes, listed, Plan, Site};
+use crate::reference;
+use crate::rng::Rng;
+
+/// Lists of at most this many depots are decomposed by a count over all sets too.
+pub const FEW: u32 = 10;
+
+/// After this many failures the run stops.
+const MOST: usize = 20;
+
+pub struct Run {
+    pub rng: Rng,
+    seed: u64,
+    pub cases: usize,
+    pub failed: usize,
+    /// How often each row was the answer; place 0 is a plan that passes.
+    pub checks: [usize; 21],
+    pub makes: [usize; 21],
+    /// How often the count over all sets agreed with the minimum cuts.
+    pub counted: usize,
+    /// How often the rows agreed with the definition: passes just where the plan is true.
+    pub judged: usize,
+    /// The list worked on, and its groups.
+    held: (Vec<u8>, Vec<u64>),
+}
+
+impl Run {
+    pub fn new(seed: u64) -> Run {
+        Run {
+            rng: Rng::new(seed),
+            seed,
+            cases: 0,
+            failed: 0,
+            checks: [0; 21],
+            makes: [0; 21],
+            counted: 0,
+            judged: 0,
+            held: (Vec::new(), Vec::new()),
+        }
+    }
+
+    /// The groups of a list by minimum cuts; on few depots the count over all sets must agree.
+    pub fn groups(&mut self, sites: &[Site]) -> Vec<u64> {
+        let list = list_bytes(sites);
+        if self.held.0 != list {
+            let groups = by_cuts(sites);
+            if listed(sites).count_ones() <= FEW {
+                self.counted += 1;
+                if by_all_sets(sites) != groups {
+                    self.fail("the minimum cuts and the count over all sets differ", &[("list", &list)]);
+                }
+            }
+            self.held = (list, groups);
+        }
+        self.held.1.clone()
+    }
+
+    /// A true plan by minimum cuts and flows.
+    pub fn plan(&mut self, sites: &[Site]) -> Plan {
+        let groups = self.groups(sites);
+        let (shares, level) = shares(sites, &groups);
+        if !level {
+            self.fail("no level shares for the groups", &[("list", &list_bytes(sites))]);
+        }
+        Plan { groups, shares }
+    }
+
+    pub fn fail(&mut self, what: &str, bytes: &[(&str, &[u8])]) {
+        println!("FAILED, seed {}, case {}: {what}", self.seed, self.cases);
+        for (name, bytes) in bytes {
+            println!("  {name} {}", hex(bytes));
+        }
+        self.failed += 1;
+        if self.failed == MOST {
+            println!("{} cases, {} failed (stopped)", self.cases, self.failed);
+            std::process::exit(1);
+        }
+    }
+
+    /// Check on a list and a plan. Answers the reference's row.
+    pub fn check(&mut self, list: &[u8], plan: &[u8]) -> u8 {
+        self.check_before(list, &[], plan, &[])
+    }
+
+    /// Check on a list and a plan that are followed in memory by bytes which are not theirs.
+    pub fn check_before(&mut self, list: &[u8], behind_list: &[u8], plan: &[u8], behind_plan: &[u8]) -> u8 {
+        self.cases += 1;
+        let row = reference::check(list, plan);
+        self.checks[usize::from(row)] += 1;
+        let both: [(&str, &[u8]); 2] = [("list", list), ("plan", plan)];
+        if row == 0 || row >= 12 {
+            self.judge(list, plan, row);
+        }
+        let lent_list = Lent::new(&mut self.rng, list, behind_list);
+        let lent_plan = Lent::new(&mut self.rng, plan, behind_plan);
+        let answer = lent::check(&lent_list, &lent_plan);
+        if answer != -i64::from(row) {
+            self.fail(&format!("check answers {answer}, expected {}", -i64::from(row)), &both);
+        }
+        if !lent_list.unchanged_from(0) || !lent_plan.unchanged_from(0) {
+            self.fail("check wrote", &both);
+        }
+        let wrapped = sulgheti::check(list, plan).map_or_else(|row| row.0, |()| 0);
+        if wrapped != row {
+            self.fail(&format!("the wrapper's check answers {wrapped}, expected {row}"), &both);
+        }
+        row
+    }
+
+    /// The rows against the definition: a plan of the right form passes just where it is true.
+    fn judge(&mut self, list: &[u8], plan: &[u8], row: u8) {
+        let sites = reference::read_list(list).expect("a list that reads");
+        let (groups, shares) = reference::read_plan(plan, sites.len()).expect("a plan of the right form");
+        let held = self.held.0 == list;
+        let decomposition = if held { self.held.1.clone() } else { by_cuts(&sites) };
+        self.judged += 1;
+        if reference::is_true(&sites, &decomposition, &groups, &shares) != (row == 0) {
+            self.fail("the rows and the definition differ", &[("list", list), ("plan", plan)]);
+        }
+    }
+
+    /// Make on a list that reads or not, into `room` bytes. Answers the plan if one was made.
+    pub fn make(&mut self, list: &[u8], behind: &[u8], room: usize) -> Option<Vec<u8>> {
+        self.cases += 1;
+        let content: Vec<u8> = (0..room).map(|_| self.rng.byte()).collect();
+        let lent_list = Lent::new(&mut self.rng, list, behind);
+        let mut out = Lent::new(&mut self.rng, &content, &[]);
+        let answer = lent::make(&lent_list, &mut out);
+        let expected = match reference::read_list(list) {
+            Err(row) => Err(row),
+            Ok(sites) => {
+                let groups = self.groups(&sites);
+                let length = 5 + 10 * groups.len() + 6 * sites.len();
+                if room < length {
+                    Err(20)
+                } else {
+                    Ok((sites, groups, length))
+                }
+            }
+        };
+        self.makes[usize::from(*expected.as_ref().err().unwrap_or(&0))] += 1;
+        let wanted = match &expected {
+            Err(row) => -i64::from(*row),
+            Ok((_, _, length)) => *length as i64,
+        };
+        if answer != wanted {
+            self.fail(&format!("make into {room} bytes answers {answer}, expected {wanted}"), &[("list", list)]);
+            return None;
+        }
+        if !lent_list.unchanged_from(0) {
+            self.fail("make wrote into the list", &[("list", list)]);
+        }
+        if !out.unchanged_from(answer.max(0) as usize) {
+            self.fail(&format!("make into {room} bytes wrote outside the plan"), &[("list", list)]);
+        }
+        let (sites, groups, length) = expected.ok()?;
+        let plan = out.bytes()[..length].to_vec();
+        let both: [(&str, &[u8]); 2] = [("list", list), ("plan", &plan)];
+        match reference::read_plan(&plan, sites.len()) {
+            Err(row) => self.fail(&format!("make's plan is refused by row {row}"), &both),
+            Ok((sets, shares)) => {
+                if !reference::is_true(&sites, &groups, &sets, &shares) {
+                    self.fail("make's plan is not true", &both);
+                }
+            }
+        }
+        let mut again = content;
+        if sulgheti::make(list, &mut again) != Ok(length) || again != out.bytes() {
+            self.fail("the wrapper's make differs", &both);
+        }
+        Some(plan)
+    }
+}
