@@ -1,0 +1,4 @@
+// The first program, with a list whose head mark is wrong.
+fn main() {
+    report::run();
+}

@@ -1,0 +1,4 @@
+// The first program, with a list of 513 sites.
+fn main() {
+    report::run();
+}

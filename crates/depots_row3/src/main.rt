@@ -1,0 +1,4 @@
+// The first program, with a list that is cut off.
+fn main() {
+    report::run();
+}

@@ -1,0 +1,4 @@
+// The first program, with a list with a depot above 63.
+fn main() {
+    report::run();
+}

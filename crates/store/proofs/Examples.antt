@@ -1,0 +1,328 @@
+-- T and two own sites of 4: a history with its replies, and replies of wrong stores, which no model gives. Assumes nothing.
+use mathlib.Core.Path.{_≡_, refl, sym, ap, ap₂, _∙_, subst}
+use mathlib.Core.Logic.{inl, inr, ⊎-elim}
+use mathlib.Core.Bool.{Bool, true, _&&_}
+use mathlib.Core.List.{List, [], _∷_, _++_, flatMap}
+use mathlib.Core.Option.{Option, none, some, Option·none-ne-some}
+use Prim.Native.Nat.{ℕ, zero, suc, _<_, _≤_, _*_, _^_}
+use native.Mathlib.Omega.{arith}
+use lib.Dec.{T, not-T, ltb, ltb→lt, nltb→le, lit<, lit≤}
+use lib.IntN.{pos}
+use lib.ListN.{length, getD, replicate, List·getD-eq-default}
+use Rattle.sets.specs.Sum.{sum, all, any}
+use Rattle.sets.specs.Set.{has, weigh}
+use Rattle.sets.proofs.Test.{T?, and-l, and-r}
+use Rattle.sets.proofs.Sum.{all-at}
+use Rattle.density.specs.declared.Site.{Site}
+use Rattle.density.specs.Network.{Listing, Network, network, depotsInRange, litres, size}
+use Rattle.density.specs.Plan.{union, place, carrier, groupSize, groupLitres, whole, firstShare, secondShare, shareOf, target, TruePlan}
+use Rattle.density.specs.Rows.{firstRow, groupsMeet, groupsUnlisted, shareBroken, sharesBroken, scaledLoad, loadsUneven, groupsRise, planRows}
+use Rattle.density.specs.Figures.{depotLitres, depotSize, difference, divisor, differenceOf}
+use Rattle.density.specs.Examples.{pair, own, starred}
+use Rattle.density.proofs.Examples.{starred-known}
+use Rattle.density.proofs.Lists.{valid}
+use Rattle.density.proofs.Figures.{depot-litres, depot-size, site-whole}
+use Rattle.records.specs.Bytes.{Bytes, value, le}
+use Rattle.records.specs.Record.{records}
+use Rattle.records.specs.Values.{Plan}
+use Rattle.records.specs.Format.{edition1}
+use Rattle.records.specs.Write.{planBytes}
+use Rattle.records.proofs.Samples.{marked1}
+use Rattle.store.specs.declared.Request.{Request}
+use Rattle.store.specs.declared.Request.the-variants.{Load, Change, Propose, Share, Depot, Difference, Written}
+use Rattle.store.specs.Calls.{Call, Reply, Told, refused, done, shared, loaded, differ, wrote}
+use Rattle.judge.specs.Check.{True}
+use Rattle.store.specs.Model.{Model, emptyModel, Proposes, turned, turn, modelRows}
+use Rattle.store.specs.State.{State, modelOf}
+use Rattle.store.specs.Trace.{start, then, History, Modelled, AllBytes}
+use Rattle.store.proofs.Plans.{rows-of-true}
+use Rattle.store.proofs.OneModel.{one-model}
+use Rattle.store.proofs.History.{history1}
+
+abbrev call : Request → List ℕ → List ℕ → Call
+call q i o = record { request = q; input = i; buffer = o }
+
+abbrev reply : Told → List ℕ → Reply
+reply a o = record { answer = a; buffer = o }
+
+abbrev model : List Site → Option Plan → Model
+model l p = record { edition = edition1; places = 2; list = record { sites = l }; plan = p }
+
+-- the record of a group and of a share whose number is one byte, and the bytes behind it
+abbrev group : ℕ → List ℕ → List ℕ
+group g s = 0x47 ∷ 0x52 ∷ g ∷ 0x00 ∷ 0x00 ∷ 0x00 ∷ 0x00 ∷ 0x00 ∷ 0x00 ∷ 0x00 ∷ s
+
+abbrev share : ℕ → List ℕ → List ℕ
+share x s = 0x53 ∷ 0x48 ∷ x ∷ 0x00 ∷ 0x00 ∷ 0x00 ∷ s
+
+-- a plan laid out in these bytes, and true of a list whose depots are in range
+module _ (l : Listing) (g x : List ℕ) (t : TruePlan (network l) g x) where
+  laid : length g ≤ 64 → ((i : ℕ) → i < length x → getD x i 0 < 256 ^ 4) → True edition1 l (record { groups = g; shares = x }) (planBytes edition1 (record { groups = g; shares = x }))
+  unfolding network
+  laid few fits =
+      record {
+        layout = record { few = few; sets = t .form .sets; each = t .form .each; fits = fits; bytes-are = refl };
+        groups = t .groups;
+        shares = t .shares;
+      }
+
+-- a proposal that a row refuses
+module _ (l : Listing) (p : Option Plan) (s : List ℕ) (n : ℕ) where
+  abbrev b : Model
+  b = model (l .sites) p
+
+  refuses : T (depotsInRange l) → length (l .sites) ≤ 512 → firstRow (modelRows b (call Propose s [])) ≡ some n
+      → Proposes b (call Propose s []) (reply (refused n) []) b
+  refuses ok few e =
+      inr (λ q t. Option·none-ne-some n (sym (rows-of-true edition1 l (valid l ok) s marked1 few q t) ∙ e), n, e, refl, refl)
+
+-- ---- T: its list, its plan, and the same with s = 11, where both shares add up to the whole and are not level
+
+abbrev listT : List ℕ
+listT = 0x4C ∷ 0x53 ∷ 0x01 ∷ 0x00 ∷ 0x53 ∷ 0x54 ∷ 0x00 ∷ 0x01 ∷ 0x0A ∷ 0x00 ∷ []
+
+abbrev planT : ℕ → List ℕ
+planT x = 0x50 ∷ 0x4C ∷ 0x01 ∷ 0x01 ∷ 0x00 ∷ group 0x03 (share x [])
+
+abbrev callsT : List Call
+callsT =
+    call Load listT []
+    ∷ call Propose (planT 0x0A) []
+    ∷ call (Share 0) [] []
+    ∷ call (Depot 0) [] []
+    ∷ call (Difference 0 1) [] []
+    ∷ call Written [] (replicate 22 7)
+    ∷ call Propose (planT 0x0B) []
+    ∷ call (Depot 1) [] []
+    ∷ []
+
+abbrev repliesT : List Reply
+repliesT =
+    reply done []
+    ∷ reply done []
+    ∷ reply (shared 10 20) []
+    ∷ reply (loaded 10 2) []
+    ∷ reply (differ (pos 0) 4) []
+    ∷ reply (wrote 21) (planT 0x0A ++ (7 ∷ []))
+    ∷ reply (refused 15) []
+    ∷ reply (loaded 10 2) []
+    ∷ []
+
+abbrev sitesT : Listing
+sitesT = record { sites = pair 0 1 10 ∷ [] }
+
+abbrev N : Network
+N = network sitesT
+
+abbrev emptyT : Model
+emptyT = emptyModel edition1 2
+
+abbrev loadedT : Model
+loadedT = model (sitesT .sites) none
+
+abbrev plannedT : Model
+plannedT = model (sitesT .sites) (some (record { groups = 3 ∷ []; shares = 10 ∷ [] }))
+
+loads-T : turned loadedT (reply done []) ≡ turn emptyT (call Load listT [])
+unfolding firstRow value records any
+loads-T = refl
+
+true-plan-T : TruePlan N (3 ∷ []) (10 ∷ [])
+unfolding starred
+true-plan-T = starred-known 1 (lit< tt) .plan
+
+accepts-T : Proposes loadedT (call Propose (planT 0x0A) []) (reply done []) plannedT
+unfolding planBytes le flatMap
+accepts-T = inl (record { groups = 3 ∷ []; shares = 10 ∷ [] }, laid sitesT (3 ∷ []) (10 ∷ []) true-plan-T (lit≤ tt) fits, refl, refl)
+  where
+    fits : (i : ℕ) → i < 1 → getD (10 ∷ []) i 0 < 256 ^ 4
+    fits zero h = lit< tt
+    fits (suc i) h = absurd (let z : ⊥ = omega arith in z)
+
+in-range-T : T (depotsInRange sitesT)
+unfolding depotsInRange all
+in-range-T = tt
+
+litres-T : (d : ℕ) → groupLitres N (3 ∷ []) (place (3 ∷ []) d) ≡ depotLitres N d
+litres-T = depot-litres N (valid sitesT in-range-T) (3 ∷ []) (true-plan-T .groups)
+
+size-T : (d : ℕ) → groupSize N (3 ∷ []) (place (3 ∷ []) d) ≡ depotSize N d
+size-T = depot-size N (valid sitesT in-range-T) (3 ∷ []) (true-plan-T .groups)
+
+shares-T : turned plannedT (reply (shared 10 20) []) ≡ turn plannedT (call (Share 0) [] [])
+unfolding firstRow network sum has weigh size place carrier groupSize whole
+shares-T = ap (λ (w : ℕ). turned plannedT (reply (shared 10 w) [])) (site-whole N (valid sitesT in-range-T) (3 ∷ []) (true-plan-T .groups) 0)
+
+depot-T-0 : turned plannedT (reply (loaded 10 2) []) ≡ turn plannedT (call (Depot 0) [] [])
+unfolding firstRow network any sum has weigh size place carrier groupSize groupLitres
+depot-T-0 = ap₂ (λ (w q : ℕ). turned plannedT (reply (loaded w q) [])) (litres-T 0) (size-T 0)
+
+depot-T-1 : turned plannedT (reply (loaded 10 2) []) ≡ turn plannedT (call (Depot 1) [] [])
+unfolding firstRow network any sum has weigh size place carrier groupSize groupLitres
+depot-T-1 = ap₂ (λ (w q : ℕ). turned plannedT (reply (loaded w q) [])) (litres-T 1) (size-T 1)
+
+writes-T : turned plannedT (reply (wrote 21) (planT 0x0A ++ (7 ∷ []))) ≡ turn plannedT (call Written [] (replicate 22 7))
+unfolding firstRow planBytes le flatMap
+writes-T = refl
+
+refuses-T : firstRow (modelRows plannedT (call Propose (planT 0x0B) [])) ≡ some 15
+unfolding firstRow value records sum any has weigh size network planRows groupsMeet groupsUnlisted sharesBroken shareBroken loadsUneven scaledLoad shareOf target groupsRise place union carrier groupSize groupLitres whole firstShare secondShare
+refuses-T = refl
+
+differs-T : turned plannedT (reply (differ (pos 0) 4) []) ≡ turn plannedT (call (Difference 0 1) [] [])
+unfolding firstRow network any sum has weigh size place carrier groupSize groupLitres difference divisor
+differs-T =
+    ap₂ (λ (a d : ℕ × ℕ). turned plannedT (reply (differ (differenceOf (a .0) (a .1) (d .0) (d .1)) (a .1 * d .1)) []))
+    (ap₂ (λ (w q : ℕ). (w, q)) (litres-T 0) (size-T 0)) (ap₂ (λ (w q : ℕ). (w, q)) (litres-T 1) (size-T 1))
+
+modelled-T : Modelled edition1 2 callsT repliesT plannedT
+modelled-T =
+    then loads-T
+    (then accepts-T
+    (then shares-T
+    (then depot-T-0 (then differs-T (then writes-T (then (refuses sitesT (plannedT .plan) (planT 0x0B) 15 in-range-T (lit≤ tt) refuses-T) (then depot-T-1 start)))))))
+
+-- ---- own 0 and own 1 of 4: groups {0}, {1} are level, and do not fall; {0,1} is the plan, and a change that changes nothing drops it
+
+abbrev listO : List ℕ
+listO =
+    0x4C ∷ 0x53 ∷ 0x02 ∷ 0x00 ∷ 0x53 ∷ 0x54 ∷ 0x00 ∷ 0x00 ∷ 0x04 ∷ 0x00 ∷ 0x53 ∷ 0x54 ∷ 0x01 ∷ 0x01 ∷ 0x04 ∷ 0x00 ∷ []
+
+abbrev callsO : List Call
+callsO =
+    call Load listO []
+    ∷ call Propose (0x50 ∷ 0x4C ∷ 0x02 ∷ 0x02 ∷ 0x00 ∷ group 0x01 (group 0x02 (share 0x04 (share 0x04 [])))) []
+    ∷ call (Depot 0) [] []
+    ∷ call Propose (0x50 ∷ 0x4C ∷ 0x01 ∷ 0x02 ∷ 0x00 ∷ group 0x03 (share 0x08 (share 0x08 []))) []
+    ∷ call (Change 0 4) [] []
+    ∷ call (Depot 0) [] []
+    ∷ []
+
+abbrev repliesO : List Reply
+repliesO = reply done [] ∷ reply (refused 16) [] ∷ reply (refused 17) [] ∷ reply done [] ∷ reply done [] ∷ reply (refused 17) [] ∷ []
+
+abbrev sitesO : Listing
+sitesO = record { sites = own 0 4 ∷ own 1 4 ∷ [] }
+
+abbrev loadedO : Model
+loadedO = model (sitesO .sites) none
+
+abbrev plannedO : Model
+plannedO = model (sitesO .sites) (some (record { groups = 3 ∷ []; shares = 8 ∷ 8 ∷ [] }))
+
+loads-O : turned loadedO (reply done []) ≡ turn emptyT (call Load listO [])
+unfolding firstRow value records any
+loads-O = refl
+
+refuses-O : firstRow (modelRows loadedO (getD callsO 1 (call Load [] []))) ≡ some 16
+unfolding firstRow value records sum any has weigh size network planRows groupsMeet groupsUnlisted sharesBroken shareBroken loadsUneven scaledLoad shareOf target groupsRise place union carrier groupSize groupLitres whole firstShare secondShare
+refuses-O = refl
+
+in-range-O : T (depotsInRange sitesO)
+unfolding depotsInRange all
+in-range-O = tt
+
+wants-O : turned loadedO (reply (refused 17) []) ≡ turn loadedO (call (Depot 0) [] [])
+unfolding firstRow
+wants-O = refl
+
+accepts-O : Proposes loadedO (getD callsO 3 (call Load [] [])) (reply done []) plannedO
+unfolding planBytes le flatMap starred
+accepts-O = inl (record { groups = 3 ∷ []; shares = 8 ∷ 8 ∷ [] }, laid sitesO (3 ∷ []) (8 ∷ 8 ∷ []) (starred-known 3 (lit< tt) .plan) (lit≤ tt) fits, refl, refl)
+  where
+    fits : (i : ℕ) → i < 2 → getD (8 ∷ 8 ∷ []) i 0 < 256 ^ 4
+    fits zero h = lit< tt
+    fits (suc zero) h = lit< tt
+    fits (suc (suc i)) h = absurd (let z : ⊥ = omega arith in z)
+
+changes-O : turned loadedO (reply done []) ≡ turn plannedO (call (Change 0 4) [] [])
+unfolding firstRow
+changes-O = refl
+
+modelled-O : Modelled edition1 2 callsO repliesO loadedO
+modelled-O =
+    then loads-O (then (refuses sitesO none (getD callsO 1 (call Load [] []) .input) 16 in-range-O (lit≤ tt) refuses-O) (then wants-O (then accepts-O (then changes-O (then wants-O start)))))
+
+-- ---- the store's history has these replies
+
+-- inputs tested to be of bytes
+unfoldable inputs : List Call → Bool
+inputs [] = true
+inputs (c ∷ cs) = all (λ i. ltb (getD (c .input) i 0) 256) (length (c .input)) && inputs cs
+
+are-bytes : (s : List ℕ) → T (all (λ i. ltb (getD s i 0) 256) (length s)) → Bytes s
+are-bytes s t i =
+    ⊎-elim (λ l. ltb→lt _ _ (all-at (λ i. ltb (getD s i 0) 256) (length s) t i (ltb→lt i (length s) l)))
+    (λ n. rw (List·getD-eq-default s 0 (nltb→le i (length s) (not-T (ltb i (length s)) n))) (lit< tt)) (T? (ltb i (length s)))
+
+are-all : (cs : List Call) → T (inputs cs) → AllBytes cs
+unfolding inputs AllBytes
+are-all [] t = tt
+are-all (c ∷ cs) t =
+    let test = all (λ i. ltb (getD (c .input) i 0) 256) (length (c .input)) in
+    (are-bytes (c .input) (and-l test (inputs cs) t), are-all cs (and-r test (inputs cs) t))
+
+-- what the model answers, the store answers on any table of two places
+has-history : (calls : List Call) (replies : List Reply) (b : Model) → Modelled edition1 2 calls replies b → AllBytes calls → (x y : Site)
+    → (s : State) × History edition1 (x ∷ y ∷ []) calls replies s × (modelOf s ≡ b)
+has-history calls replies b run bytes x y =
+    let (rs, s, h, exact) = history1 (x ∷ y ∷ []) calls bytes in
+    let only = exact .only replies b run in
+    (s, subst (λ (rs : List Reply). History edition1 (x ∷ y ∷ []) calls rs s) (sym (only .0)) h, sym (only .1))
+
+pub history-T : (x y : Site) → (s : State) × History edition1 (x ∷ y ∷ []) callsT repliesT s × (modelOf s ≡ plannedT)
+unfolding inputs all
+history-T = has-history callsT repliesT plannedT modelled-T (are-all callsT tt)
+
+pub history-O : (x y : Site) → (s : State) × History edition1 (x ∷ y ∷ []) callsO repliesO s × (modelOf s ≡ loadedO)
+unfolding inputs all
+history-O = has-history callsO repliesO loadedO modelled-O (are-all callsO tt)
+
+-- ---- what no model answers, and so no history has
+
+-- the answer to the i-th call
+abbrev nth : ℕ → List Reply → Told
+nth i rs = getD rs i (reply done []) .answer
+
+module _ (rs : List Reply) (b : Model) (run : Modelled edition1 2 callsT rs b) where
+  is-T : (i : ℕ) → nth i repliesT ≡ nth i rs
+  is-T i = ap (nth i) (one-model modelled-T run .0)
+
+  -- "checks its first proposal and waves the later ones through"; "a check of form and totals that passes everything well formed": s = 11
+  pub not-waved : nth 6 rs ≡ done → ⊥
+  not-waved h = let e : refused 15 ≡ done = is-T 6 ∙ h in let z : _≡_ {A = ℕ} 0 1 = cc in omega arith
+
+  -- "a gate that never opens"
+  pub not-shut : (n : ℕ) → nth 1 rs ≡ refused n → ⊥
+  not-shut n h = let e : done ≡ refused n = is-T 1 ∙ h in let z : _≡_ {A = ℕ} 0 1 = cc in omega arith
+
+  -- "drops every proposal unread"; "no plan held" right after a plan has passed
+  pub not-dropped : (n : ℕ) → nth 2 rs ≡ refused n → ⊥
+  not-dropped n h = let e : shared 10 20 ≡ refused n = is-T 2 ∙ h in let z : _≡_ {A = ℕ} 0 1 = cc in omega arith
+
+  -- nor after another was refused
+  pub not-lost : (n : ℕ) → nth 7 rs ≡ refused n → ⊥
+  not-lost n h = let e : loaded 10 2 ≡ refused n = is-T 7 ∙ h in let z : _≡_ {A = ℕ} 0 1 = cc in omega arith
+
+  -- "loads with an invented W or q"
+  pub not-invented : (w q : ℕ) → nth 3 rs ≡ loaded w q → (w ≡ 10) × (q ≡ 2)
+  not-invented w q h = let e : loaded 10 2 ≡ loaded w q = is-T 3 ∙ h in (cc, cc)
+
+  pub not-another-share : (x w : ℕ) → nth 2 rs ≡ shared x w → (x ≡ 10) × (w ≡ 20)
+  not-another-share x w h = let e : shared 10 20 ≡ shared x w = is-T 2 ∙ h in (cc, cc)
+
+module _ (rs : List Reply) (b : Model) (run : Modelled edition1 2 callsO rs b) where
+  is-O : (i : ℕ) → nth i repliesO ≡ nth i rs
+  is-O i = ap (nth i) (one-model modelled-O run .0)
+
+  -- a plan well formed and level, with the right totals, whose groups do not fall
+  pub not-passed : nth 1 rs ≡ done → ⊥
+  not-passed h = let e : refused 16 ≡ done = is-O 1 ∙ h in let z : _≡_ {A = ℕ} 0 1 = cc in omega arith
+
+  -- and the true plan after it
+  pub not-shut-after : (n : ℕ) → nth 3 rs ≡ refused n → ⊥
+  not-shut-after n h = let e : done ≡ refused n = is-O 3 ∙ h in let z : _≡_ {A = ℕ} 0 1 = cc in omega arith
+
+  -- "Keeping the held plan when only one site's litres changed"
+  pub not-kept : (w q : ℕ) → nth 5 rs ≡ loaded w q → ⊥
+  not-kept w q h = let e : refused 17 ≡ loaded w q = is-O 5 ∙ h in let z : _≡_ {A = ℕ} 0 1 = cc in omega arith

@@ -1,0 +1,293 @@
+-- Demand 3: whatever calls a fresh store gets, it answers them as the model does, and holds what the model holds. Assumes nothing.
+use mathlib.Core.Path.{_≡_, refl, sym, ap, _∙_, subst}
+use mathlib.Core.Logic.{_↔_, inl, inr}
+use mathlib.Core.Bool.{Bool, true, false, cond, _||_, true≢false}
+use mathlib.Core.List.{List, [], _∷_, _++_}
+use mathlib.Core.Option.{Option, none, some}
+use Prim.Native.Nat.{ℕ, _*_}
+use native.Mathlib.Omega.{arith}
+use lib.Dec.{leb, ltb}
+use lib.IntN.{ℤ}
+use lib.ListN.{length}
+use Rattle.density.specs.declared.Site.{Site}
+use Rattle.density.specs.Network.{Network, network}
+use Rattle.density.specs.Groups.{Decomposition}
+use Rattle.density.specs.Plan.{place, groupLitres, groupSize}
+use Rattle.density.specs.Rows.{firstRow}
+use Rattle.density.specs.Figures.{depotLitres, depotSize, siteWhole, difference, divisor, differenceOf}
+use Rattle.density.proofs.Figures.{depot-litres, depot-size, site-whole}
+use Rattle.records.specs.declared.Edition.{Edition}
+use Rattle.records.specs.Values.{Plan}
+use Rattle.records.specs.Format.{edition1}
+use Rattle.records.specs.Write.{planBytes}
+use Rattle.records.proofs.RoundTrip.{Marked}
+use Rattle.records.proofs.Samples.{marked1}
+use Rattle.store.specs.declared.Request.{Request}
+use Rattle.store.specs.declared.Request.the-variants.{Load, Change, Add, Propose, Share, Depot, Difference, Written}
+use Rattle.store.specs.Calls.{Call, Reply, Told, refused, done, shared, loaded, differ}
+use Rattle.judge.specs.Check.{True}
+use Rattle.store.specs.Model.{Model, missing, held, count, unlisted, rowsOf, modelRows, Turn, Turns, Proposes, SaysOf, Says, grantOf, settled, turned}
+use Rattle.store.specs.State.{State, Done, modelOf, planHeld, listOf, corrupt, fresh, effectOf, rows, settle, step}
+use Rattle.store.specs.Trace.{Run, start, then, Steps, History, AllBytes, after, passedSince, Question, Each, Exact}
+use Rattle.store.proofs.Rules.{granted-not-refused, not-zero}
+use Rattle.store.proofs.Steps.{Holds, holds-valid, Fed, fed, fresh-holds, row-zero-off, kept}
+use Rattle.store.proofs.OneModel.{one-run, one-model}
+
+-- ---- a run of steps is a run of the model
+
+record Reached (s : State) (calls : List Call) (replies : List Reply) (s' : State) : Type 0 where
+  model : Run Says (modelOf s) calls replies (modelOf s')
+  holds : Holds s'
+  edition : s' .edition ≡ s .edition
+  places : length (s' .table) ≡ length (s .table)
+  never-zero : Each (λ (r : Reply). r .answer ≡ refused 0 → ⊥) replies
+
+reached : {s s' : State} {calls : List Call} {replies : List Reply} → Run Steps s calls replies s' → Marked (s .edition) → Holds s → AllBytes calls
+    → Reached s calls replies s'
+unfolding AllBytes Each
+reached start m h b = record { model = start; holds = h; edition = refl; places = refl; never-zero = tt }
+reached (then {s = s} {s₁ = s₁} {c = c} {r = r} x xs) m h b =
+    let k = kept s c m h (fed (c .request) (c .input) (b .0)) r s₁ x in
+    let rest = reached xs (subst Marked (sym (k .edition)) m) (k .holds) (b .1) in
+    record {
+      model = then (k .says) (rest .model);
+      holds = rest .holds;
+      edition = rest .edition ∙ k .edition;
+      places = rest .places ∙ k .places;
+      never-zero = (not-zero s c r s₁ (h .intact) x, rest .never-zero);
+    }
+
+-- ---- whether a plan is held, by calls and replies alone
+
+kept-flag : (q : Request) (n : ℕ) (b : Bool) → after q (refused n) b ≡ b
+kept-flag Load n b = refl
+kept-flag (Change i w) n b = refl
+kept-flag (Add f s w) n b = refl
+kept-flag Propose n b = refl
+kept-flag (Share i) n b = refl
+kept-flag (Depot d) n b = refl
+kept-flag (Difference a d) n b = refl
+kept-flag Written n b = refl
+
+module _ (s : State) (c : Call) where
+  granted-flag : (q : Request) → effectOf s c q .after .store .held ≡ after q (effectOf s c q .reply .answer) (s .store .held)
+  granted-flag Load = refl
+  granted-flag (Change i w) = refl
+  granted-flag (Add f x w) = refl
+  granted-flag Propose = refl
+  granted-flag (Share i) = refl
+  granted-flag (Depot d) = refl
+  granted-flag (Difference a d) = refl
+  granted-flag Written = refl
+
+  flag : (o : Option ℕ) (q : Request)
+      → settle o s c (effectOf s c q) .after .store .held ≡ after q (settle o s c (effectOf s c q) .reply .answer) (s .store .held)
+  flag none q = granted-flag q
+  flag (some n) q = sym (kept-flag q n (s .store .held))
+
+  flag-step : (r : Reply) (s' : State) → Steps s c r s' → s' .store .held ≡ after (c .request) (r .answer) (s .store .held)
+  flag-step r s' x =
+      subst (λ (d : Done). d .after .store .held ≡ after (c .request) (d .reply .answer) (s .store .held)) (sym x)
+      (flag (firstRow (rows s c)) (c .request))
+
+flag-run : {s s' : State} {calls : List Call} {replies : List Reply} → Run Steps s calls replies s'
+    → s' .store .held ≡ passedSince (s .store .held) calls replies
+unfolding passedSince
+flag-run start = refl
+flag-run (then {s = s} {s₁ = s₁} {c = c} {cs = cs} {r = r} {rs = rs} x xs) =
+    flag-run xs ∙ ap (λ (b : Bool). passedSince b cs rs) (flag-step s c r s₁ x)
+
+-- ---- a question
+
+module _ (s : State) (c : Call) (q : Request) (p : Plan) (k : ℕ) (other : k ≡ 17 → ⊥) where
+  seventeen : (y x : Bool)
+      → (settle (cond (missing (cond x (some p) none)) (some 17) (cond y (some k) none)) s c (effectOf s c q) .reply .answer ≡ refused 17) ↔ (x ≡ false)
+  seventeen y false = (λ e. refl, λ e. refl)
+  seventeen true true = (λ e. absurd (other (cc)), λ e. absurd (true≢false e))
+  seventeen false true = (λ e. absurd (granted-not-refused s c q 17 e), λ e. absurd (true≢false e))
+
+module _ (s : State) (c : Call) where
+  wants : (q : Request) → Question q
+      → (settle (firstRow (rowsOf (modelOf s) c q)) s c (effectOf s c q) .reply .answer ≡ refused 17) ↔ (s .store .held ≡ false)
+  unfolding firstRow
+  wants Load h = absurd h
+  wants (Change i w) h = absurd h
+  wants (Add f x w) h = absurd h
+  wants Propose h = absurd h
+  wants (Share i) h = seventeen s c (Share i) (planHeld s) 18 (λ e. omega arith) (leb (count (modelOf s)) i) (s .store .held)
+  wants (Depot d) h = seventeen s c (Depot d) (planHeld s) 19 (λ e. omega arith) (unlisted (modelOf s) d) (s .store .held)
+  wants (Difference a d) h =
+      seventeen s c (Difference a d) (planHeld s) 19 (λ e. omega arith) (unlisted (modelOf s) a || unlisted (modelOf s) d) (s .store .held)
+  wants Written h =
+      seventeen s c Written (planHeld s) 20 (λ e. omega arith)
+      (ltb (length (c .buffer)) (length (planBytes (s .edition) (held (modelOf s .plan))))) (s .store .held)
+
+  question : corrupt s ≡ false → (r : Reply) (s' : State) → Question (c .request) → Steps s c r s' → (r .answer ≡ refused 17) ↔ (s .store .held ≡ false)
+  question h r s' q x =
+      let e : r .answer ≡ settle (firstRow (modelRows (modelOf s) c)) s c (effectOf s c (c .request)) .reply .answer =
+      ap (λ (d : Done). d .reply .answer) x
+      ∙ ap (λ (o : Option ℕ). settle o s c (effectOf s c (c .request)) .reply .answer) (row-zero-off s c h) in
+      let w = wants (c .request) q in
+      (λ a. w .0 (sym e ∙ a), λ a. e ∙ w .1 a)
+
+-- ---- the answers of the model
+
+module _ (b : Model) (c : Call) (r : Reply) (b' : Model) where
+  -- the model's answer to a call whose request is known
+  abbrev answerTo : Request → Option ℕ → Told
+  answerTo q o = settled o b c (grantOf b c q) .reply .answer
+
+  answer-to : (q : Request) → c .request ≡ q → Turns b c r b' → r .answer ≡ answerTo q (firstRow (rowsOf b c q))
+  answer-to q k t = ap (λ (u : Turn). u .reply .answer) (subst (λ (q : Request). turned b' r ≡ settled (firstRow (rowsOf b c q)) b c (grantOf b c q)) k t)
+
+  loaded-is : (d w q : ℕ) (o : Option ℕ) → r .answer ≡ answerTo (Depot d) o → r .answer ≡ loaded w q
+      → (w ≡ depotLitres (network (b .list)) d) × (q ≡ depotSize (network (b .list)) d)
+  loaded-is d w q none e a = (cc, cc)
+  loaded-is d w q (some n) e a = absurd (let z : _≡_ {A = ℕ} 0 1 = cc in omega arith)
+
+  shared-is : (i x w : ℕ) (o : Option ℕ) → r .answer ≡ answerTo (Share i) o → r .answer ≡ shared x w → w ≡ siteWhole (network (b .list)) i
+  shared-is i x w none e a = cc
+  shared-is i x w (some n) e a = absurd (let z : _≡_ {A = ℕ} 0 1 = cc in omega arith)
+
+  differ-is : (x y : ℕ) (z : ℤ) (q : ℕ) (o : Option ℕ) → r .answer ≡ answerTo (Difference x y) o → r .answer ≡ differ z q
+      → (z ≡ difference (network (b .list)) x y) × (q ≡ divisor (network (b .list)) x y)
+  differ-is x y z q none e a = (cc, cc)
+  differ-is x y z q (some n) e a = absurd (let z : _≡_ {A = ℕ} 0 1 = cc in omega arith)
+
+  proposed : Proposes b c r b' → (r .answer ≡ done) ↔ ((p : Plan) × True (b .edition) (b .list) p (c .input))
+  proposed (inl (p, t, x, y)) = (λ e. (p, t), λ e. ap (λ (r : Reply). r .answer) x)
+  proposed (inr (never, n, e, x, y)) =
+      (λ a. absurd (let k : r .answer ≡ refused n = ap (λ (r : Reply). r .answer) x in let z : _≡_ {A = ℕ} 0 1 = cc in omega arith), λ (p, t). absurd (never p t))
+
+-- ---- Demand 3
+
+-- the figures of two depots by a decomposition and by the function
+module _ (s : State) (h : Holds s) (gs : List ℕ) (dec : Decomposition (network (listOf s)) gs) where
+  abbrev N : Network
+  N = network (listOf s)
+
+  difference-is : (a d : ℕ)
+      → (difference N a d
+      ≡ differenceOf (groupLitres N gs (place gs a)) (groupSize N gs (place gs a)) (groupLitres N gs (place gs d)) (groupSize N gs (place gs d)))
+      × (divisor N a d ≡ groupSize N gs (place gs a) * groupSize N gs (place gs d))
+  unfolding difference divisor
+  difference-is a d =
+      let ok = holds-valid s h in
+      let W = depot-litres N ok gs dec in
+      let Q = depot-size N ok gs dec in
+      (rw (W a, W d, Q a, Q d) refl, rw (Q a, Q d) refl)
+
+module _ {e : Edition} (m : Marked e) {table : List Site} {calls : List Call} {replies : List Reply} {s : State} (h : History e table calls replies s)
+    (bytes : AllBytes calls) where
+  final : Reached (fresh e table) calls replies s
+  final = reached h m (fresh-holds e table) bytes
+
+  abbrev b : Model
+  b = modelOf s
+
+  said : (c : Call) (r : Reply) (s' : State) → Fed (c .request) (c .input) → Steps s c r s' → Says b c r (modelOf s')
+  said c r s' f x = kept s c (subst Marked (sym (final .edition)) m) (final .holds) f r s' x .says
+
+  -- what the model says to a call whose request is known
+  says-to : (c : Call) (r : Reply) (s' : State) (q : Request) → c .request ≡ q → Fed q (c .input) → Steps s c r s' → SaysOf q b c r (modelOf s')
+  says-to c r s' q k f x = subst (λ (q : Request). SaysOf q b c r (modelOf s')) k (said c r s' (subst (λ (q : Request). Fed q (c .input)) (sym k) f) x)
+
+  -- the figures answered are those of the list held
+  depot-says : (c : Call) (d : ℕ) (r : Reply) (s' : State) (w q : ℕ) → c .request ≡ Depot d → Steps s c r s' → r .answer ≡ loaded w q
+      → (w ≡ depotLitres (network (b .list)) d) × (q ≡ depotSize (network (b .list)) d)
+  depot-says c d r s' w q k x a =
+      loaded-is b c r (modelOf s') d w q (firstRow (rowsOf b c (Depot d))) (answer-to b c r (modelOf s') (Depot d) k (says-to c r s' (Depot d) k tt x)) a
+
+  site-says : (c : Call) (i : ℕ) (r : Reply) (s' : State) (y w : ℕ) → c .request ≡ Share i → Steps s c r s' → r .answer ≡ shared y w
+      → w ≡ siteWhole (network (b .list)) i
+  site-says c i r s' y w k x a =
+      shared-is b c r (modelOf s') i y w (firstRow (rowsOf b c (Share i))) (answer-to b c r (modelOf s') (Share i) k (says-to c r s' (Share i) k tt x)) a
+
+  difference-says : (c : Call) (y d : ℕ) (r : Reply) (s' : State) (z : ℤ) (q : ℕ) → c .request ≡ Difference y d → Steps s c r s'
+      → r .answer ≡ differ z q → (z ≡ difference (network (b .list)) y d) × (q ≡ divisor (network (b .list)) y d)
+  difference-says c y d r s' z q k x a =
+      differ-is b c r (modelOf s') y d z q (firstRow (rowsOf b c (Difference y d)))
+      (answer-to b c r (modelOf s') (Difference y d) k (says-to c r s' (Difference y d) k tt x)) a
+
+  -- Demand 3: every history is as the model has it.
+  pub exact : Exact e table calls replies s
+  exact =
+      record {
+        model = final .model;
+        only = λ rs b' run. one-model run (final .model);
+        never-zero = final .never-zero;
+        tidy = final .holds .tidy;
+        sized = final .places;
+        wanting = λ c r s' q x.
+            let w = question s c (final .holds .intact) r s' q x in
+            let f = flag-run h in
+            (λ a. sym f ∙ w .0 a, λ a. w .1 (f ∙ a));
+        gate = λ c r s' k f x.
+            subst (λ (e : Edition). (r .answer ≡ done) ↔ ((p : Plan) × True e (b .list) p (c .input))) (final .edition)
+            (proposed b c r (modelOf s') (says-to c r s' Propose k f x));
+        depot-figures = λ c d r s' w q k x a gs dec.
+            let ok = holds-valid s (final .holds) in
+            let f = depot-says c d r s' w q k x a in
+            (f .0 ∙ sym (depot-litres (network (b .list)) ok gs dec d), f .1 ∙ sym (depot-size (network (b .list)) ok gs dec d));
+        site-figures = λ c i r s' y w k x a gs dec.
+            site-says c i r s' y w k x a ∙ sym (site-whole (network (b .list)) (holds-valid s (final .holds)) gs dec i);
+        differences = λ c y d r s' z q k x a gs dec.
+            let f = difference-says c y d r s' z q k x a in
+            let g = difference-is s (final .holds) gs dec y d in
+            (f .0 ∙ g .0, f .1 ∙ g .1);
+      }
+
+-- Every list of calls has a history.
+pub runs : (s : State) (calls : List Call) → (replies : List Reply) × (s' : State) × Run Steps s calls replies s'
+runs s [] = ([], s, start)
+runs s (c ∷ cs) = let (rs, s', run) = runs (step s c .after) cs in (step s c .reply ∷ rs, s', then refl run)
+
+pub history : (e : Edition) → Marked e → (table : List Site) (calls : List Call) → AllBytes calls
+    → (replies : List Reply) × (s : State) × History e table calls replies s × Exact e table calls replies s
+history e m table calls bytes = let (rs, s, run) = runs (fresh e table) calls in (rs, s, run, exact m run bytes)
+
+-- Demand 3 at edition 1: nothing is asked but that inputs are of bytes.
+pub history1 : (table : List Site) (calls : List Call) → AllBytes calls
+    → (replies : List Reply) × (s : State) × History edition1 table calls replies s × Exact edition1 table calls replies s
+history1 = history edition1 marked1
+
+-- It has one only.
+pub one-history : {e : Edition} {table : List Site} {calls : List Call} {rs rs' : List Reply} {s s' : State}
+    → History e table calls rs s → History e table calls rs' s' → (rs ≡ rs') × (s ≡ s')
+one-history = one-run Steps (λ s c r r' s₁ s₂ x y. let e = x ∙ sym y in (ap (λ (d : Done). d .reply) e, ap (λ (d : Done). d .after) e))
+
+-- Any call may follow it.
+extended : {s s' : State} {calls : List Call} {rs : List Reply} → Run Steps s calls rs s' → (c : Call)
+    → Run Steps s (calls ++ (c ∷ [])) (rs ++ (step s' c .reply ∷ [])) (step s' c .after)
+extended start c = then refl start
+extended (then x xs) c = then x (extended xs c)
+
+pub extends : {e : Edition} {table : List Site} {calls : List Call} {rs : List Reply} {s : State} → History e table calls rs s → (c : Call)
+    → (r : Reply) × (s' : State) × Steps s c r s' × History e table (calls ++ (c ∷ [])) (rs ++ (r ∷ [])) s'
+extends {s = s} h c = (step s c .reply, step s c .after, refl, extended h c)
+
+-- Two stores that hold the same list, of whatever histories: each figure that both answer is the same.
+pub record SameFigures (s₁ s₂ : State) : Type 0 where
+  pub depot : (c₁ c₂ : Call) (d : ℕ) (r₁ r₂ : Reply) (s₁' s₂' : State) (w₁ q₁ w₂ q₂ : ℕ) → c₁ .request ≡ Depot d → c₂ .request ≡ Depot d
+      → Steps s₁ c₁ r₁ s₁' → Steps s₂ c₂ r₂ s₂' → r₁ .answer ≡ loaded w₁ q₁ → r₂ .answer ≡ loaded w₂ q₂ → (w₁ ≡ w₂) × (q₁ ≡ q₂)
+  pub site : (c₁ c₂ : Call) (i : ℕ) (r₁ r₂ : Reply) (s₁' s₂' : State) (x₁ w₁ x₂ w₂ : ℕ) → c₁ .request ≡ Share i → c₂ .request ≡ Share i
+      → Steps s₁ c₁ r₁ s₁' → Steps s₂ c₂ r₂ s₂' → r₁ .answer ≡ shared x₁ w₁ → r₂ .answer ≡ shared x₂ w₂ → w₁ ≡ w₂
+  pub differences : (c₁ c₂ : Call) (a d : ℕ) (r₁ r₂ : Reply) (s₁' s₂' : State) (z₁ : ℤ) (q₁ : ℕ) (z₂ : ℤ) (q₂ : ℕ) → c₁ .request ≡ Difference a d
+      → c₂ .request ≡ Difference a d → Steps s₁ c₁ r₁ s₁' → Steps s₂ c₂ r₂ s₂' → r₁ .answer ≡ differ z₁ q₁ → r₂ .answer ≡ differ z₂ q₂
+      → (z₁ ≡ z₂) × (q₁ ≡ q₂)
+
+pub same-figures : {e₁ e₂ : Edition} {t₁ t₂ : List Site} {cs₁ cs₂ : List Call} {rs₁ rs₂ : List Reply} {s₁ s₂ : State} → Marked e₁ → Marked e₂
+    → History e₁ t₁ cs₁ rs₁ s₁ → AllBytes cs₁ → History e₂ t₂ cs₂ rs₂ s₂ → AllBytes cs₂ → modelOf s₁ .list ≡ modelOf s₂ .list → SameFigures s₁ s₂
+same-figures m₁ m₂ h₁ b₁ h₂ b₂ l =
+    record {
+      depot = λ c₁ c₂ d r₁ r₂ s₁' s₂' w₁ q₁ w₂ q₂ k₁ k₂ x₁ x₂ a₁ a₂.
+          let f₁ = depot-says m₁ h₁ b₁ c₁ d r₁ s₁' w₁ q₁ k₁ x₁ a₁ in
+          let f₂ = depot-says m₂ h₂ b₂ c₂ d r₂ s₂' w₂ q₂ k₂ x₂ a₂ in
+          (f₁ .0 ∙ ap (λ l. depotLitres (network l) d) l ∙ sym (f₂ .0), f₁ .1 ∙ ap (λ l. depotSize (network l) d) l ∙ sym (f₂ .1));
+      site = λ c₁ c₂ i r₁ r₂ s₁' s₂' y₁ w₁ y₂ w₂ k₁ k₂ x₁ x₂ a₁ a₂.
+          site-says m₁ h₁ b₁ c₁ i r₁ s₁' y₁ w₁ k₁ x₁ a₁ ∙ ap (λ l. siteWhole (network l) i) l ∙ sym (site-says m₂ h₂ b₂ c₂ i r₂ s₂' y₂ w₂ k₂ x₂ a₂);
+      differences = λ c₁ c₂ a d r₁ r₂ s₁' s₂' z₁ q₁ z₂ q₂ k₁ k₂ x₁ x₂ a₁ a₂.
+          let f₁ = difference-says m₁ h₁ b₁ c₁ a d r₁ s₁' z₁ q₁ k₁ x₁ a₁ in
+          let f₂ = difference-says m₂ h₂ b₂ c₂ a d r₂ s₂' z₂ q₂ k₂ x₂ a₂ in
+          (f₁ .0 ∙ ap (λ l. difference (network l) a d) l ∙ sym (f₂ .0), f₁ .1 ∙ ap (λ l. divisor (network l) a d) l ∙ sym (f₂ .1));
+    }

@@ -1,0 +1,305 @@
+-- Each step of the store is one of the model: what a state holds stays the model's. Assumes nothing.
+use mathlib.Core.Path.{_≡_, refl, sym, ap, ap₂, _∙_, subst}
+use mathlib.Core.Logic.{inl, inr}
+use mathlib.Core.Bool.{Bool, true, false, cond, _&&_, _||_, true≢false, false≢true}
+use mathlib.Core.List.{List, [], _∷_, _++_}
+use mathlib.Core.Option.{Option, none, some, Option·none-ne-some}
+use Prim.Native.Nat.{ℕ, _+_, _-_, _*_, _≤_, _<_, zero-le}
+use native.Mathlib.Numerals.{add-one}
+use native.Mathlib.Omega.{arith}
+use borrow.Author.Tests.{leb-false}
+use lib.Dec.{T, eqb, leb, ltb}
+use lib.ListN.{length, getD, take, drop, set, replicate, length-append, length-drop, length-set}
+use lib.Seq.{take-append-seam, drop-append-seam, take-set-lt, take-suc-set, take-at, drop-at, getD-take}
+use Rattle.sets.proofs.Test.{is-false}
+use Rattle.density.specs.declared.Site.{Site}
+use Rattle.density.specs.Network.{Listing, network, siteAt, Valid}
+use Rattle.density.specs.Plan.{TruePlan}
+use Rattle.density.specs.Rows.{firstRow, groupsMeet, groupsUnlisted, sharesBroken, planRows}
+use Rattle.density.specs.Figures.{depotLitres, depotSize, difference, divisor, differenceOf}
+use Rattle.density.proofs.Rows.{Clear, →clear}
+use Rattle.density.proofs.Figures.{depot-litres, depot-size, site-whole}
+use Rattle.records.specs.declared.Edition.{Edition}
+use Rattle.records.specs.Bytes.{Bytes}
+use Rattle.records.specs.Values.{Plan}
+use Rattle.records.specs.Format.{sitesOf, layoutRows, planOf}
+use Rattle.records.specs.Write.{planBytes, onto}
+use Rattle.records.proofs.RoundTrip.{Marked}
+use Rattle.store.specs.declared.Request.{Request}
+use Rattle.store.specs.declared.Request.the-variants.{Load, Change, Add, Propose, Share, Depot, Difference, Written}
+use Rattle.store.specs.Calls.{Call, Reply, same, refused, done, shared, loaded, differ, wrote}
+use Rattle.judge.specs.Check.{True}
+use Rattle.store.specs.Model.{Model, Says, listed, planned, missing, held, rowsOf, modelRows, proposalRows, withLitres, grantOf, settled, turned, turn}
+use Rattle.store.specs.State.{State, Done, listOf, planHeld, modelOf, badPlan, corrupt, triesZero, bare, fresh, holding, next, stays, litresAt, sizeAt, effectOf, rows, settle, step}
+use Rattle.store.specs.Trace.{Steps, Tidy}
+use Rattle.store.proofs.Rules.{none-both}
+use Rattle.store.proofs.Plans.{formed, true-of-rows, rows-of-true}
+use Rattle.store.proofs.Intact.{neither, or-not, Good, listing, good-valid, good-set, good-add, good-litres, read-list, Intact, sized, intact→, →intact}
+
+-- A state holds what it should: it is not corrupt, its plan is true of its list, and the places behind are zero.
+pub record Holds (s : State) : Type 0 where
+  pub intact : corrupt s ≡ false
+  pub plan : s .store .held ≡ true → TruePlan (network (listOf s)) (planHeld s .groups) (planHeld s .shares)
+  pub tidy : Tidy s
+
+pub holds-valid : (s : State) → Holds s → Valid (network (listOf s))
+holds-valid s h = good-valid (listOf s) (intact→ s (h .intact) .good)
+
+-- A step that is the model's and keeps that.
+pub record Kept (s : State) (c : Call) (d : Done) : Type 0 where
+  pub says : Says (modelOf s) c (d .reply) (modelOf (d .after))
+  pub holds : Holds (d .after)
+  pub edition : d .after .edition ≡ s .edition
+  pub places : length (d .after .table) ≡ length (s .table)
+
+-- ---- a state without a plan
+
+module _ (e : Edition) (n : ℕ) (table : List Site) where
+  abbrev without : State
+  without = record { edition = e; store = bare n; table = table }
+
+  pub bare-holds : n ≤ 512 → n ≤ length table → Good (listOf without) → Holds without
+  bare-holds few room good =
+      record {
+        intact = →intact without (record { few = few; room = room; good = good; groups = λ t. absurd t; plan = λ t. absurd t });
+        plan = λ h. absurd (false≢true h);
+        tidy = record { none = λ h. (refl, refl, refl); behind = λ h. absurd (false≢true h) };
+      }
+
+pub fresh-holds : (e : Edition) (table : List Site) → Holds (fresh e table)
+fresh-holds e table = bare-holds e 0 table zero-le zero-le (λ i m. absurd (let z : ⊥ = omega arith in z))
+
+-- ---- the plan held, where there is one
+
+not-missing : (x : Bool) (p : Plan) → (T (missing (cond x (some p) none)) → ⊥) → x ≡ true
+not-missing true p h = refl
+not-missing false p h = absurd (h tt)
+
+held-is : (x : Bool) (p : Plan) → x ≡ true → held (cond x (some p) none) ≡ p
+held-is x p e = rw e refl
+
+-- ---- what the model says where no row refuses, and where one does
+
+turn-granted : (b : Model) (c : Call) → firstRow (modelRows b c) ≡ none → turn b c ≡ grantOf b c (c .request)
+turn-granted b c e = ap (λ (o : Option ℕ). settled o b c (grantOf b c (c .request))) e
+
+turn-refused : (b : Model) (c : Call) (n : ℕ) → firstRow (modelRows b c) ≡ some n → turn b c ≡ turned b (same c (refused n))
+turn-refused b c n e = ap (λ (o : Option ℕ). settled o b c (grantOf b c (c .request))) e
+
+-- what is asked of a call's input
+abbrev pub Fed : Request → List ℕ → Type 0
+Fed Load s = Unit {0}
+Fed (Change i w) s = Unit {0}
+Fed (Add f d w) s = Unit {0}
+Fed Propose s = Bytes s
+Fed (Share i) s = Unit {0}
+Fed (Depot d) s = Unit {0}
+Fed (Difference a d) s = Unit {0}
+Fed Written s = Unit {0}
+
+pub fed : (q : Request) (s : List ℕ) → Bytes s → Fed q s
+fed Load s b = tt
+fed (Change i w) s b = tt
+fed (Add f d w) s b = tt
+fed Propose s b = b
+fed (Share i) s b = tt
+fed (Depot d) s b = tt
+fed (Difference a d) s b = tt
+fed Written s b = tt
+
+plan-clear : (e : Edition) (l : Listing) (s : List ℕ) → firstRow (proposalRows e l s) ≡ none → T (badPlan l (planOf e (length (l .sites)) s)) → ⊥
+unfolding Clear planRows
+plan-clear e l s h =
+    let p = planOf e (length (l .sites)) s in
+    let c = →clear (planRows (network l) (p .groups) (p .shares))
+    (none-both (planRows (network l) (p .groups) (p .shares)) (layoutRows e (length (l .sites)) s) h .1) in
+    or-not (groupsMeet (p .groups) || groupsUnlisted (network l) (p .groups)) (sharesBroken (network l) (p .groups) (p .shares))
+    (or-not (groupsMeet (p .groups)) (groupsUnlisted (network l) (p .groups)) (c .0) (c .1 .0)) (c .1 .1 .0)
+
+module _ (s : State) (h : Holds s) (input buffer : List ℕ) where
+  abbrev call : Request → Call
+  call q = record { request = q; input = input; buffer = buffer }
+
+  abbrev b : Model
+  b = modelOf s
+
+  abbrev n : ℕ
+  n = s .store .count
+
+  parts : Intact s
+  parts = intact→ s (h .intact)
+
+  size : length (listOf s .sites) ≡ n
+  size = sized s (parts .room)
+
+  ok : Valid (network (listOf s))
+  ok = holds-valid s h
+
+  -- a call that drops the plan
+  dropped : (q : Request) (m : ℕ) (table sites : List Site) → length table ≡ length (s .table) → take m table ≡ sites → m ≤ 512 → m ≤ length (s .table)
+      → Good (listing sites) → Says b (call q) (same (call q) done) (listed b sites) → Kept s (call q) (next s (bare m) table (same (call q) done))
+  dropped q m table sites len front few room good t =
+      let model : modelOf (record { edition = s .edition; store = bare m; table = table }) ≡ listed b sites =
+      ap₂ (λ (i : ℕ) (l : List Site). record { edition = s .edition; places = i; list = listing l; plan = none }) len front in
+      record {
+        says = subst (λ (x : Model). Says b (call q) (same (call q) done) x) (sym model) t;
+        holds = bare-holds (s .edition) m table few (rw len room) (rw front good);
+        edition = refl;
+        places = len;
+      }
+
+  -- a question
+  asked : (q : Request) (r : Reply) → Says b (call q) r b → Kept s (call q) (stays s r)
+  asked q r t = record { says = t; holds = h; edition = refl; places = refl }
+
+  -- a proposal that is true
+  accepted : (p : Plan) → True (s .edition) (listOf s) p input → (T (badPlan (listOf s) p) → ⊥)
+      → Kept s (call Propose) (next s (holding n p) (s .table) (same (call Propose) done))
+  accepted p t clear =
+      let after : State = record { edition = s .edition; store = holding n p; table = s .table } in
+      let each : length (p .shares) ≡ n = t .layout .each ∙ size in
+      let plan : planHeld after ≡ p =
+      ap₂ (λ (g x : List ℕ). record { groups = g; shares = x }) (take-append-seam (p .groups) (replicate (64 - length (p .groups)) 0))
+      (take-at (p .shares) (replicate (512 - length (p .shares)) 0) n each) in
+      let form = formed (s .edition) (listOf s) p input (t .layout) in
+      record {
+        says = inl (p, t, refl, ap (λ (q : Plan). planned b q) plan);
+        holds =
+            record {
+              intact =
+                  →intact after
+                  (record {
+                    few = parts .few;
+                    room = parts .room;
+                    good = parts .good;
+                    groups = λ u. t .layout .few;
+                    plan = λ u. subst (λ (q : Plan). T (badPlan (listOf s) q) → ⊥) (sym plan) clear;
+                  });
+              plan = λ u.
+                  subst (λ (q : Plan). TruePlan (network (listOf s)) (q .groups) (q .shares)) (sym plan)
+                  (record { form = form; groups = t .groups; shares = t .shares });
+              tidy =
+                  record {
+                    none = λ u. absurd (true≢false u);
+                    behind = λ u. (
+                      drop-append-seam (p .groups) (replicate (64 - length (p .groups)) 0),
+                      drop-at (p .shares) (replicate (512 - length (p .shares)) 0) n each ∙ ap (λ (k : ℕ). replicate (512 - k) 0) each,
+                    );
+                  };
+            };
+        edition = refl;
+        places = refl;
+      }
+
+  -- W and q of the held groups are those of the definition
+  module _ (t : s .store .held ≡ true) where
+    litres-are : (d : ℕ) → litresAt s d ≡ depotLitres (network (listOf s)) d
+    litres-are = depot-litres (network (listOf s)) ok (planHeld s .groups) (h .plan t .groups)
+
+    size-are : (d : ℕ) → sizeAt s d ≡ depotSize (network (listOf s)) d
+    size-are = depot-size (network (listOf s)) ok (planHeld s .groups) (h .plan t .groups)
+
+    difference-reply : (a d : ℕ)
+        → turned b (same (call (Difference a d)) (differ (differenceOf (litresAt s a) (sizeAt s a) (litresAt s d) (sizeAt s d)) (sizeAt s a * sizeAt s d)))
+        ≡ grantOf b (call (Difference a d)) (Difference a d)
+    unfolding difference divisor
+    difference-reply a d = rw (litres-are a, litres-are d, size-are a, size-are d) refl
+
+  -- what each call does that no row refuses
+  granted : (q : Request) → Fed q input → firstRow (rowsOf b (call q) q) ≡ none → Kept s (call q) (effectOf s (call q) q)
+  unfolding Clear
+  granted Load f e =
+      let r = read-list (s .edition) (length (s .table)) input e in
+      let sites = sitesOf (s .edition) input in
+      let room = r .room in
+      let len : length (sites ++ drop (length sites) (s .table)) ≡ length (s .table) = simp (length-append, length-drop) (omega arith) in
+      dropped Load (length sites) (sites ++ drop (length sites) (s .table)) sites len (take-append-seam sites _) (r .few) (r .room) (r .good)
+      (sym (turn-granted b (call Load) e))
+  granted (Change i w) f e =
+      let c = →clear (rowsOf b (call (Change i w)) (Change i w)) e in
+      let below : i < n = omega (arith, leb-false (length (listOf s .sites)) i (is-false (leb (length (listOf s .sites)) i) (c .1 .0)), size) in
+      let x = withLitres (siteAt (listOf s) i) w in
+      dropped (Change i w) n (set (s .table) i x) (set (listOf s .sites) i x) (length-set (s .table) i x) (take-set-lt n (s .table) i x below) (parts .few)
+      (parts .room)
+      (good-set (listOf s .sites) i x (parts .good) (good-litres (siteAt (listOf s) i) w (parts .good i (rw size below)) (c .0)))
+      (sym (turn-granted b (call (Change i w)) e))
+  granted (Add x y w) f e =
+      let c = →clear (rowsOf b (call (Add x y w)) (Add x y w)) e in
+      let full = neither (leb 512 (length (listOf s .sites))) (leb (length (s .table)) (length (listOf s .sites))) (c .0) in
+      let few : n < 512 = omega (arith, leb-false 512 (length (listOf s .sites)) (is-false (leb 512 (length (listOf s .sites))) (full .0)), size) in
+      let room : n < length (s .table) =
+      omega (arith, leb-false (length (s .table)) (length (listOf s .sites)) (is-false (leb (length (s .table)) (length (listOf s .sites))) (full .1)), size) in
+      let z : Site = record { first = x; second = y; litres = w } in
+      dropped (Add x y w) (n + 1) (set (s .table) n z) (listOf s .sites ++ (z ∷ [])) (length-set (s .table) n z)
+      (rw add-one (take-suc-set (s .table) n z room)) (omega arith) (omega arith)
+      (good-add (listOf s .sites) z (parts .good) (or-not (ltb 63 x || ltb 63 y) (eqb w 0) (c .1 .0) (c .1 .1 .0)))
+      (sym (turn-granted b (call (Add x y w)) e))
+  granted Propose f e =
+      subst (λ (k : ℕ). Kept s (call Propose) (next s (holding n (planOf (s .edition) k input)) (s .table) (same (call Propose) done))) size
+      (accepted (planOf (s .edition) (length (listOf s .sites)) input) (true-of-rows (s .edition) (listOf s) ok input f e)
+      (plan-clear (s .edition) (listOf s) input e))
+  granted (Share i) f e =
+      let c = →clear (rowsOf b (call (Share i)) (Share i)) e in
+      let t = not-missing (s .store .held) (planHeld s) (c .0) in
+      let below : i < n = omega (arith, leb-false (length (listOf s .sites)) i (is-false (leb (length (listOf s .sites)) i) (c .1 .0)), size) in
+      asked (Share i) (effectOf s (call (Share i)) (Share i) .reply)
+      (ap₂ (λ (x w : ℕ). turned b (same (call (Share i)) (shared x w)))
+      (sym (ap (λ (p : Plan). getD (p .shares) i 0) (held-is (s .store .held) (planHeld s) t) ∙ getD-take n (s .store .shares) i 0 below))
+      (site-whole (network (listOf s)) ok (planHeld s .groups) (h .plan t .groups) i)
+      ∙ sym (turn-granted b (call (Share i)) e))
+  granted (Depot d) f e =
+      let c = →clear (rowsOf b (call (Depot d)) (Depot d)) e in
+      let t = not-missing (s .store .held) (planHeld s) (c .0) in
+      asked (Depot d) (effectOf s (call (Depot d)) (Depot d) .reply)
+      (ap₂ (λ (w q : ℕ). turned b (same (call (Depot d)) (loaded w q))) (litres-are t d) (size-are t d) ∙ sym (turn-granted b (call (Depot d)) e))
+  granted (Difference a d) f e =
+      let c = →clear (rowsOf b (call (Difference a d)) (Difference a d)) e in
+      let t = not-missing (s .store .held) (planHeld s) (c .0) in
+      asked (Difference a d) (effectOf s (call (Difference a d)) (Difference a d) .reply)
+      (difference-reply t a d ∙ sym (turn-granted b (call (Difference a d)) e))
+  granted Written f e =
+      let c = →clear (rowsOf b (call Written) Written) e in
+      let t = not-missing (s .store .held) (planHeld s) (c .0) in
+      asked Written (effectOf s (call Written) Written .reply)
+      (ap (λ (p : Plan). turned b (record { answer = wrote (length (planBytes (s .edition) p)); buffer = onto (planBytes (s .edition) p) buffer }))
+      (sym (held-is (s .store .held) (planHeld s) t))
+      ∙ sym (turn-granted b (call Written) e))
+
+  -- a call that a row refuses
+  refuses : Marked (s .edition) → (q : Request) (k : ℕ) → firstRow (rowsOf b (call q) q) ≡ some k → Kept s (call q) (stays s (same (call q) (refused k)))
+  refuses m Load k e = asked Load _ (sym (turn-refused b (call Load) k e))
+  refuses m (Change i w) k e = asked (Change i w) _ (sym (turn-refused b (call (Change i w)) k e))
+  refuses m (Add x y w) k e = asked (Add x y w) _ (sym (turn-refused b (call (Add x y w)) k e))
+  refuses m Propose k e =
+      asked Propose _
+      (inr
+      (λ p t. Option·none-ne-some k (sym (rows-of-true (s .edition) (listOf s) ok input m (rw size (parts .few)) p t) ∙ e), k, e, refl, refl))
+  refuses m (Share i) k e = asked (Share i) _ (sym (turn-refused b (call (Share i)) k e))
+  refuses m (Depot d) k e = asked (Depot d) _ (sym (turn-refused b (call (Depot d)) k e))
+  refuses m (Difference a d) k e = asked (Difference a d) _ (sym (turn-refused b (call (Difference a d)) k e))
+  refuses m Written k e = asked Written _ (sym (turn-refused b (call Written) k e))
+
+  decided : Marked (s .edition) → (q : Request) → Fed q input → (o : Option ℕ) → firstRow (rowsOf b (call q) q) ≡ o
+      → Kept s (call q) (settle o s (call q) (effectOf s (call q) q))
+  decided m q f none e = granted q f e
+  decided m q f (some k) e = refuses m q k e
+
+-- no row 0 where a state is not corrupt
+pub row-zero-off : (s : State) (c : Call) → corrupt s ≡ false → firstRow (rows s c) ≡ firstRow (modelRows (modelOf s) c)
+unfolding firstRow
+row-zero-off s c e = off (triesZero (c .request)) (corrupt s) (firstRow (modelRows (modelOf s) c)) e
+  where
+    off : (x y : Bool) (o : Option ℕ) → y ≡ false → cond (x && y) (some 0) o ≡ o
+    off false y o h = refl
+    off true false o h = refl
+    off true true o h = absurd (true≢false h)
+
+-- Each step from a state that holds is the model's, and the next state holds.
+module _ (s : State) (c : Call) (m : Marked (s .edition)) (h : Holds s) (f : Fed (c .request) (c .input)) where
+  pub keeps : Kept s c (step s c)
+  keeps =
+      subst (λ (o : Option ℕ). Kept s c (settle o s c (effectOf s c (c .request)))) (sym (row-zero-off s c (h .intact)))
+      (decided s h (c .input) (c .buffer) m (c .request) f (firstRow (modelRows (modelOf s) c)) refl)
+
+  pub kept : (r : Reply) (s' : State) → Steps s c r s' → Kept s c (record { after = s'; reply = r })
+  kept r s' x = subst (λ (d : Done). Kept s c d) (sym x) keeps

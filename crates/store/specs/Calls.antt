@@ -1,0 +1,41 @@
+-- Document 01, "Entry points": what a desk call is given, and what it answers.
+use mathlib.Core.List.{List}
+use Prim.Native.Nat.{ℕ}
+use lib.IntN.{ℤ}
+use Rattle.store.specs.declared.Request.{Request}
+use Rattle.store.specs.declared.Answer.{Answer}
+use Rattle.store.specs.declared.Answer.the-variants as of
+
+-- A call: its request with the figures that it names, its input and its buffer. "What else a call is lent is its own."
+pub record Call : Type 0 where
+  pub request : Request
+  pub input : List ℕ
+  pub buffer : List ℕ
+
+-- What a call answers: "a refusal is its number and no other figure"; success; "a site's s and w × q"; "a depot's W and q"; the difference "with
+-- the divisor"; the length written.
+pub data Told : Type 0 where
+  refused : ℕ → Told
+  done : Told
+  shared : ℕ → ℕ → Told
+  loaded : ℕ → ℕ → Told
+  differ : ℤ → ℕ → Told
+  wrote : ℕ → Told
+
+-- the paper's number and values for each case of the answer
+abbrev pub told : Answer → Told
+told (of.Refused n) = refused n
+told of.Done = done
+told (of.Share s w) = shared s w
+told (of.Depot w q) = loaded w q
+told (of.Difference d q) = differ d q
+told (of.Length n) = wrote n
+
+-- An answer, and the buffer as it then is.
+pub record Reply : Type 0 where
+  pub answer : Told
+  pub buffer : List ℕ
+
+-- an answer that leaves the buffer as it was
+abbrev pub same : Call → Told → Reply
+same c a = record { answer = a; buffer = c .buffer }

@@ -1,0 +1,6 @@
+pub mod Calls
+pub mod Model
+pub mod State
+pub mod Trace
+pub mod Serve
+pub mod Edition1

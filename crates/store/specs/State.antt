@@ -1,0 +1,125 @@
+-- Document 01, "Entry points", the desk: what is held, and what each call does at any desk and table.
+use mathlib.Core.Bool.{Bool, true, false, cond, _&&_, _||_}
+use mathlib.Core.List.{List, _∷_, _++_}
+use mathlib.Core.Option.{Option, none, some}
+use Prim.Native.Nat.{ℕ, _+_, _*_}
+use lib.Dec.{eqb, ltb}
+use lib.ListN.{length, getD, take, drop, set, replicate}
+use Rattle.sets.specs.Sum.{any}
+use Rattle.density.specs.declared.Site.{Site}
+use Rattle.density.specs.Network.{Listing, network, siteAt}
+use Rattle.density.specs.Plan.{place, groupLitres, groupSize, whole}
+use Rattle.density.specs.Rows.{Row, row, firstRow, groupsMeet, groupsUnlisted, sharesBroken}
+use Rattle.density.specs.Figures.{differenceOf}
+use Rattle.records.specs.declared.Edition.{Edition}
+use Rattle.records.specs.Values.{Plan}
+use Rattle.records.specs.Answer.{filled}
+use Rattle.records.specs.Format.{sitesOf, planOf}
+use Rattle.records.specs.Write.{planBytes, onto}
+use Rattle.store.specs.declared.Store.{Store}
+use Rattle.store.specs.declared.Request.{Request}
+use Rattle.store.specs.declared.Request.the-variants.{Load, Change, Add, Propose, Share, Depot, Difference, Written}
+use Rattle.store.specs.Calls.{Call, Reply, same, refused, done, shared, loaded, differ, wrote}
+use Rattle.store.specs.Model.{Model, held, rowsOf, withLitres}
+
+-- The desk (store) of an edition, and the table that it is lent.
+pub record State : Type 0 where
+  pub edition : Edition
+  pub store : Store
+  pub table : List Site
+
+-- the list held, and the plan held or the lack of one
+abbrev pub listOf : State → Listing
+listOf s = record { sites = take (s .store .count) (s .table) }
+
+abbrev pub planHeld : State → Plan
+planHeld s =
+    record { groups = take (s .store .grouped) (s .store .groups); shares = take (s .store .count) (s .store .shares) }
+
+abbrev pub modelOf : State → Model
+modelOf s =
+    record { edition = s .edition; places = length (s .table); list = listOf s; plan = cond (s .store .held) (some (planHeld s)) none }
+
+-- Row 0: "held site count above 512 or the table's places, a held site that rows 5 or 6 refuse, or a held plan that rows 8 or 12 to 14 refuse"
+abbrev pub badSite : Site → Bool
+badSite x = ltb 63 (x .first) || ltb 63 (x .second) || eqb (x .litres) 0
+
+abbrev pub badPlan : Listing → Plan → Bool
+badPlan l p = groupsMeet (p .groups) || groupsUnlisted (network l) (p .groups) || sharesBroken (network l) (p .groups) (p .shares)
+
+unfoldable pub corrupt : State → Bool
+corrupt s =
+    ltb 512 (s .store .count)
+    || ltb (length (s .table)) (s .store .count)
+    || any (λ i. badSite (siteAt (listOf s) i)) (s .store .count)
+    || (s .store .held && (ltb 64 (s .store .grouped) || badPlan (listOf s) (planHeld s)))
+
+-- every call but load tries row 0
+abbrev pub triesZero : Request → Bool
+triesZero Load = false
+triesZero (Change i w) = true
+triesZero (Add f s w) = true
+triesZero Propose = true
+triesZero (Share i) = true
+triesZero (Depot d) = true
+triesZero (Difference a d) = true
+triesZero Written = true
+
+abbrev pub rows : State → Call → List Row
+rows s c = row 0 (triesZero (c .request) && corrupt s) ∷ rowsOf (modelOf s) c (c .request)
+
+-- "A fresh desk has no sites, no plan, and 512 places for shares, all zero. Its 64 places for groups are zero too."
+abbrev pub bare : ℕ → Store
+bare n = record { count = n; held = false; grouped = 0; groups = replicate 64 0; shares = replicate 512 0 }
+
+abbrev pub fresh : Edition → List Site → State
+fresh e table = record { edition = e; store = bare 0; table = table }
+
+-- "a plan that passes for the held list becomes the held plan, and group and share places beyond it become zero"
+abbrev pub holding : ℕ → Plan → Store
+holding n p =
+    record { count = n; held = true; grouped = length (p .groups); groups = filled 64 (p .groups) 0; shares = filled 512 (p .shares) 0 }
+
+-- The state after a call, and its reply.
+pub record Done : Type 0 where
+  pub after : State
+  pub reply : Reply
+
+abbrev pub next : State → Store → List Site → Reply → Done
+next s store table r = record { after = record { edition = s .edition; store = store; table = table }; reply = r }
+
+abbrev pub stays : State → Reply → Done
+stays s r = record { after = s; reply = r }
+
+-- W, q and w × q by the held groups
+abbrev pub litresAt : State → ℕ → ℕ
+litresAt s d = groupLitres (network (listOf s)) (planHeld s .groups) (place (planHeld s .groups) d)
+
+abbrev pub sizeAt : State → ℕ → ℕ
+sizeAt s d = groupSize (network (listOf s)) (planHeld s .groups) (place (planHeld s .groups) d)
+
+-- What a call does that no row refuses. "Success drops the plan, even if no figure differs, and sets its groups and share places to zero."
+-- "Table places beyond the sites keep their content."
+abbrev pub effectOf : State → Call → Request → Done
+effectOf s c Load =
+    let sites = sitesOf (s .edition) (c .input) in
+    next s (bare (length sites)) (sites ++ drop (length sites) (s .table)) (same c done)
+effectOf s c (Change i w) = next s (bare (s .store .count)) (set (s .table) i (withLitres (siteAt (listOf s) i) w)) (same c done)
+effectOf s c (Add f d w) =
+    next s (bare (s .store .count + 1)) (set (s .table) (s .store .count) (record { first = f; second = d; litres = w })) (same c done)
+effectOf s c Propose = next s (holding (s .store .count) (planOf (s .edition) (s .store .count) (c .input))) (s .table) (same c done)
+effectOf s c (Share i) = stays s (same c (shared (getD (s .store .shares) i 0) (whole (network (listOf s)) (planHeld s .groups) i)))
+effectOf s c (Depot d) = stays s (same c (loaded (litresAt s d) (sizeAt s d)))
+effectOf s c (Difference a d) =
+    stays s (same c (differ (differenceOf (litresAt s a) (sizeAt s a) (litresAt s d) (sizeAt s d)) (sizeAt s a * sizeAt s d)))
+effectOf s c Written =
+    let bytes = planBytes (s .edition) (planHeld s) in
+    stays s (record { answer = wrote (length bytes); buffer = onto bytes (c .buffer) })
+
+-- "A refusal is its number and no other figure, and every buffer, table and desk remains as before, its held plan included."
+abbrev pub settle : Option ℕ → State → Call → Done → Done
+settle (some n) s c d = stays s (same c (refused n))
+settle none s c d = d
+
+abbrev pub step : State → Call → Done
+step s c = settle (firstRow (rows s c)) s c (effectOf s c (c .request))

@@ -1,0 +1,442 @@
+// What each call does, on values.
+use crate::Answer;
+use crate::Decision;
+use crate::Request;
+use crate::Store;
+use density::Site;
+use records::Edition;
+use records::ListArray;
+use records::PlanArray;
+use records::Read;
+use records::Wrote;
+use records::scan;
+use verify::Verdict;
+ghost use mathlib.Core.Path.{_≡_};
+ghost use mathlib.Core.Bool.{true, false, _&&_, _||_};
+ghost use mathlib.Core.List.{List};
+ghost use Prim.Native.Nat.{ℕ, _*_, _^_, _<_, _≤_};
+ghost use lib.Dec.{T, ltb};
+ghost use lib.IntN.{pos, _-ℤ_};
+ghost use lib.ListN.{getD, take};
+ghost use Rattle.sets.specs.Sum.{any};
+ghost use Rattle.density.specs.Network.{noSite, depotsInRange};
+ghost use Rattle.density.specs.Plan.{place, groupSize, groupLitres, whole};
+ghost use Rattle.records.specs.declared.Edition.{Edition};
+ghost use Rattle.store.specs.declared.Answer.the-variants as answer;
+ghost use Rattle.store.specs.declared.Request.the-variants as request;
+ghost use Rattle.records.specs.Values.{listing, planIn};
+ghost use Rattle.verify.specs.Tables.{net, groupsIn, Counted, Ready};
+ghost use Rattle.store.specs.State.{badSite, badPlan, corrupt, triesZero, bare};
+ghost use Rattle.store.specs.Serve.{on, Served};
+
+// A refusal: nothing changes.
+fn refuse(store: Store, sites: [Site; 512], n: u8) -> Decision
+    ensures { λ r. ⌜ r ≡ record { answer = answer.Refused n; store = store; sites = sites; n = 0 } ⌝ }
+{
+    Decision {
+        answer: Answer::Refused(n),
+        store,
+        sites,
+        n: 0,
+    }
+}
+
+// The first n sites are the list, and no plan is held.
+fn without_plan(sites: [Site; 512], n: usize) -> Decision
+    ensures { λ r. ⌜ r ≡ record { answer = answer.Done; store = bare n; sites = sites; n = n } ⌝ }
+{
+    let groups = [0u64; 64];
+    let shares = [0u64; 512];
+    let store = Store {
+        count: n,
+        held: false,
+        grouped: 0,
+        groups,
+        shares,
+    };
+    Decision {
+        answer: Answer::Done,
+        store,
+        sites,
+        n,
+    }
+}
+
+// The plan held, as a value.
+fn plan_held(store: Store) -> PlanArray
+    ensures { λ r. ⌜ r ≡ record { count = store .grouped; groups = store .groups; shares = store .shares } ⌝ }
+{
+    let groups = store.groups;
+    let shares = store.shares;
+    PlanArray {
+        count: store.grouped,
+        groups,
+        shares,
+    }
+}
+
+// Do rows 5 or 6 refuse the site?
+fn is_bad(x: Site) -> bool
+    ensures { λ r. ⌜ r ≡ badSite x ⌝ }
+{
+    let depots = scan::either(63 < x.first, 63 < x.second);
+    scan::either(depots, x.litres == 0)
+}
+
+// Do they refuse one of the first n sites?
+fn is_any_bad(sites: [Site; 512], n: usize) -> bool
+    requires { ⌜ n ≤ 512 ⌝ }
+    ensures { λ r. ⌜ r ≡ any (λ i. badSite (getD sites i noSite)) n ⌝ }
+{
+    let mut i: usize = 0;
+    while i < n {
+        let x = sites[i];
+        if is_bad(x) {
+            return true;
+        }
+        i += 1;
+    }
+    false
+}
+
+// Do rows 12 to 14 refuse the plan?
+fn is_plan_bad(count: usize, sites: [Site; 512], plan: PlanArray) -> bool
+    requires { ⌜ Counted (record { count = count; sites = sites }) plan ⌝ }
+    ensures { λ r. ⌜ r ≡ badPlan (record { sites = take count sites }) (planIn plan count) ⌝ }
+{
+    let list = ListArray { count, sites };
+    match verify::form_row(list, plan) {
+        Verdict::Passes => false,
+        Verdict::Refused(_) => true,
+    }
+}
+
+// Row 0.
+fn is_corrupt(store: Store, sites: [Site; 512], places: usize) -> bool
+    ensures { λ r. ⌜ ((e : Edition) → r ≡ (ltb places (store .count) || corrupt (on e store sites))) ⌝ }
+{
+    let count = store.count;
+    if places < count {
+        return true;
+    }
+    if 512 < count {
+        return true;
+    }
+    if is_any_bad(sites, count) {
+        return true;
+    }
+    if !store.held {
+        return false;
+    }
+    let plan = plan_held(store);
+    if 64 < plan.count {
+        return true;
+    }
+    is_plan_bad(count, sites, plan)
+}
+
+// Changes the litres of site i.
+fn change(store: Store, sites: [Site; 512], i: usize, w: u32) -> Decision
+    requires { ⌜ ((e : Edition) → corrupt (on e store sites) ≡ false) ⌝ }
+    ensures { λ r. ⌜ ((e : Edition) (places : ℕ) (input buffer : List ℕ) → store .count ≤ places → Served e store sites places (request.Change i w) input buffer r buffer) ⌝ }
+{
+    if w == 0 {
+        return refuse(store, sites, 6);
+    }
+    let count = store.count;
+    if count <= i {
+        return refuse(store, sites, 18);
+    }
+    let x = sites[i];
+    let mut next = sites;
+    next[i] = Site {
+        first: x.first,
+        second: x.second,
+        litres: w,
+    };
+    without_plan(next, count)
+}
+
+// Adds a site at the end.
+fn add(store: Store, sites: [Site; 512], places: usize, x: Site) -> Decision
+    requires { ⌜ ((e : Edition) → (store .count ≤ places) × (corrupt (on e store sites) ≡ false)) ⌝ }
+    ensures { λ r. ⌜ ((e : Edition) (input buffer : List ℕ) → Served e store sites places (request.Add (x .first) (x .second) (x .litres)) input buffer r buffer) ⌝ }
+{
+    let count = store.count;
+    if scan::either(512 <= count, places <= count) {
+        return refuse(store, sites, 2);
+    }
+    if scan::either(63 < x.first, 63 < x.second) {
+        return refuse(store, sites, 5);
+    }
+    if x.litres == 0 {
+        return refuse(store, sites, 6);
+    }
+    let mut next = sites;
+    next[count] = x;
+    without_plan(next, count + 1)
+}
+
+// Reads a list, which becomes the one held.
+fn load(e: Edition, store: Store, sites: [Site; 512], places: usize, input: &[u8]) -> Decision
+    requires { ⌜ e .litres ≤ 4 ⌝ }
+    ensures { λ r. ⌜ ((buffer : List ℕ) → Served e store sites places request.Load (now (input .entry)) buffer r buffer) ⌝ }
+{
+    let read = records::list::read(e, places, input);
+    let answer = read.answer;
+    match answer {
+        Read::Count(n) => {
+            let list = read.list;
+            let next = list.sites;
+            without_plan(next, n)
+        }
+        Read::Refused(n) => refuse(store, sites, n),
+    }
+}
+
+// The plan becomes the one held.
+fn with_plan(count: usize, plan: PlanArray, sites: [Site; 512]) -> Decision
+    ensures { λ r. ⌜ r ≡ record { answer = answer.Done; store = record { count = count; held = true; grouped = plan .count; groups = plan .groups; shares = plan .shares }; sites = sites; n = 0 } ⌝ }
+{
+    let groups = plan.groups;
+    let shares = plan.shares;
+    let store = Store {
+        count,
+        held: true,
+        grouped: plan.count,
+        groups,
+        shares,
+    };
+    Decision {
+        answer: Answer::Done,
+        store,
+        sites,
+        n: 0,
+    }
+}
+
+// A plan that passes becomes the one held.
+fn propose(e: Edition, store: Store, sites: [Site; 512], input: &[u8]) -> Decision
+    requires { ⌜ (e .share ≤ 8) × (corrupt (on e store sites) ≡ false) ⌝ }
+    ensures { λ r. ⌜ ((places : ℕ) (buffer : List ℕ) → store .count ≤ places → Served e store sites places request.Propose (now (input .entry)) buffer r buffer) ⌝ }
+{
+    let count = store.count;
+    let read = records::plan::read(e, count, input);
+    let answer = read.answer;
+    let plan = read.plan;
+    if let Read::Refused(n) = answer {
+        return refuse(store, sites, n);
+    }
+    let list = ListArray { count, sites };
+    let verdict = verify::plan_row(list, plan);
+    if let Verdict::Refused(n) = verdict {
+        return refuse(store, sites, n);
+    }
+    with_plan(count, plan, sites)
+}
+
+// The plan held, written out.
+fn written(e: Edition, store: Store, sites: [Site; 512], buffer: &mut [u8]) -> Decision
+    requires { ⌜ (e .share ≤ 8) × (corrupt (on e store sites) ≡ false) ⌝ }
+    ensures { λ r. ⌜ ((places : ℕ) (input : List ℕ) → store .count ≤ places → Served e store sites places request.Written input (now (buffer .entry)) r (now (buffer .exit))) ⌝ }
+{
+    if !store.held {
+        return refuse(store, sites, 17);
+    }
+    let count = store.count;
+    let plan = plan_held(store);
+    match records::write::plan(e, plan, count, buffer) {
+        Wrote::Length(n) => Decision {
+            answer: Answer::Length(n),
+            store,
+            sites,
+            n: 0,
+        },
+        Wrote::Refused(n) => refuse(store, sites, n),
+    }
+}
+
+// Is the depot listed?
+fn is_listed(list: ListArray, d: u8) -> bool
+    requires { ⌜ (list .count ≤ 512) × T (depotsInRange (listing list)) ⌝ }
+    ensures { λ r. ⌜ r ≡ net list .listed d ⌝ }
+{
+    sets::contains(verify::listed(list), d)
+}
+
+// W of a depot's group.
+fn litres_at(list: ListArray, plan: PlanArray, d: u8) -> u64
+    requires { ⌜ Ready list plan × T (net list .listed d) ⌝ }
+    ensures { λ r. ⌜ (r ≡ groupLitres (net list) (groupsIn list plan) (place (groupsIn list plan) d)) × (r ≤ 512 * 2 ^ 32) ⌝ }
+{
+    let n = plan.count;
+    let sets = plan.groups;
+    let groups = &sets[..n];
+    let at = verify::places(groups);
+    let w = verify::litres(list, &at);
+    w[at[d as usize] as usize]
+}
+
+// q of a depot's group.
+fn size_at(list: ListArray, plan: PlanArray, d: u8) -> u64
+    requires { ⌜ Ready list plan × T (net list .listed d) ⌝ }
+    ensures { λ r. ⌜ (r ≡ groupSize (net list) (groupsIn list plan) (place (groupsIn list plan) d)) × (r ≤ 576) ⌝ }
+{
+    let n = plan.count;
+    let sets = plan.groups;
+    let groups = &sets[..n];
+    let at = verify::places(groups);
+    let q = verify::sizes(groups);
+    q[at[d as usize] as usize]
+}
+
+// w × q of a site.
+fn whole_at(list: ListArray, plan: PlanArray, i: usize) -> u64
+    requires { ⌜ Ready list plan × (i < list .count) ⌝ }
+    ensures { λ r. ⌜ r ≡ whole (net list) (groupsIn list plan) i ⌝ }
+{
+    let n = plan.count;
+    let sets = plan.groups;
+    let groups = &sets[..n];
+    let at = verify::places(groups);
+    let q = verify::sizes(groups);
+    let s = list.sites[i];
+    verify::whole(s, &at, &q)
+}
+
+// A site's s and w × q.
+fn share(store: Store, sites: [Site; 512], i: usize) -> Decision
+    requires { ⌜ ((e : Edition) → corrupt (on e store sites) ≡ false) ⌝ }
+    ensures { λ r. ⌜ ((e : Edition) (places : ℕ) (input buffer : List ℕ) → store .count ≤ places → Served e store sites places (request.Share i) input buffer r buffer) ⌝ }
+{
+    if !store.held {
+        return refuse(store, sites, 17);
+    }
+    let count = store.count;
+    if count <= i {
+        return refuse(store, sites, 18);
+    }
+    let list = ListArray { count, sites };
+    let plan = plan_held(store);
+    let all = whole_at(list, plan, i);
+    let s = plan.shares[i];
+    Decision {
+        answer: Answer::Share(s, all),
+        store,
+        sites,
+        n: 0,
+    }
+}
+
+// A depot's W and q.
+fn depot(store: Store, sites: [Site; 512], d: u8) -> Decision
+    requires { ⌜ ((e : Edition) → corrupt (on e store sites) ≡ false) ⌝ }
+    ensures { λ r. ⌜ ((e : Edition) (places : ℕ) (input buffer : List ℕ) → store .count ≤ places → Served e store sites places (request.Depot d) input buffer r buffer) ⌝ }
+{
+    if !store.held {
+        return refuse(store, sites, 17);
+    }
+    let count = store.count;
+    let list = ListArray { count, sites };
+    if !is_listed(list, d) {
+        return refuse(store, sites, 19);
+    }
+    let plan = plan_held(store);
+    let w = litres_at(list, plan, d);
+    let q = size_at(list, plan, d);
+    Decision {
+        answer: Answer::Depot(w, q),
+        store,
+        sites,
+        n: 0,
+    }
+}
+
+// The difference of two numbers, below zero where the first is less.
+fn less(x: u64, y: u64) -> i64
+    requires { ⌜ (x < 2 ^ 52) × (y < 2 ^ 52) ⌝ }
+    ensures { λ r. ⌜ r ≡ pos x -ℤ pos y ⌝ }
+{
+    (x as i64) - (y as i64)
+}
+
+// The difference of two depots, with its divisor.
+fn difference(store: Store, sites: [Site; 512], a: u8, b: u8) -> Decision
+    requires { ⌜ ((e : Edition) → corrupt (on e store sites) ≡ false) ⌝ }
+    ensures { λ r. ⌜ ((e : Edition) (places : ℕ) (input buffer : List ℕ) → store .count ≤ places → Served e store sites places (request.Difference a b) input buffer r buffer) ⌝ }
+{
+    if !store.held {
+        return refuse(store, sites, 17);
+    }
+    let count = store.count;
+    let list = ListArray { count, sites };
+    if !is_listed(list, a) {
+        return refuse(store, sites, 19);
+    }
+    if !is_listed(list, b) {
+        return refuse(store, sites, 19);
+    }
+    let plan = plan_held(store);
+    let wa = litres_at(list, plan, a);
+    let qa = size_at(list, plan, a);
+    let wb = litres_at(list, plan, b);
+    let qb = size_at(list, plan, b);
+    let d = less(wa * qb, wb * qa);
+    Decision {
+        answer: Answer::Difference(d, qa * qb),
+        store,
+        sites,
+        n: 0,
+    }
+}
+
+// Row 0, of the calls that try it.
+fn row_zero(request: Request, store: Store, sites: [Site; 512], places: usize) -> bool
+    ensures { λ r. ⌜ ((e : Edition) → r ≡ (triesZero request && (ltb places (store .count) || corrupt (on e store sites)))) ⌝ }
+{
+    match request {
+        Request::Load => false,
+        Request::Change(_, _) => is_corrupt(store, sites, places),
+        Request::Add(_, _, _) => is_corrupt(store, sites, places),
+        Request::Propose => is_corrupt(store, sites, places),
+        Request::Share(_) => is_corrupt(store, sites, places),
+        Request::Depot(_) => is_corrupt(store, sites, places),
+        Request::Difference(_, _) => is_corrupt(store, sites, places),
+        Request::Written => is_corrupt(store, sites, places),
+    }
+}
+
+// Any call.
+pub fn serve(
+    e: Edition,
+    store: Store,
+    sites: [Site; 512],
+    places: usize,
+    request: Request,
+    input: &[u8],
+    buffer: &mut [u8],
+) -> Decision
+    requires { ⌜ (e .litres ≤ 4) × (e .share ≤ 8) ⌝ }
+    ensures { λ r. ⌜ Served e store sites places request (now (input .entry)) (now (buffer .entry)) r (now (buffer .exit)) ⌝ }
+{
+    if row_zero(request, store, sites, places) {
+        return refuse(store, sites, 0);
+    }
+    match request {
+        Request::Load => load(e, store, sites, places, input),
+        Request::Change(i, w) => change(store, sites, i, w),
+        Request::Add(first, second, litres) => {
+            let x = Site {
+                first,
+                second,
+                litres,
+            };
+            add(store, sites, places, x)
+        }
+        Request::Propose => propose(e, store, sites, input),
+        Request::Share(i) => share(store, sites, i),
+        Request::Depot(d) => depot(store, sites, d),
+        Request::Difference(a, b) => difference(store, sites, a, b),
+        Request::Written => written(e, store, sites, buffer),
+    }
+}

@@ -1,0 +1,143 @@
+// A table of sites that the caller lends: thin functions over it, and a copy of it by value.
+// A lent table is narrow by type: that of edition 1 has sites with two-byte litres.
+ghost use mathlib.Core.Path.{_≡_};
+ghost use mathlib.Core.List.{map};
+ghost use Prim.Native.Nat.{_<_, _≤_, _^_, min};
+ghost use lib.ListN.{length, getD, set};
+ghost use Rattle.table.specs.Table.{overlay, heldOf};
+ghost use Rattle.table.specs.Widths.{noSite1, widened, narrowed, LitresFit};
+use density::Site;
+
+pub mod values;
+
+// A site of edition 1.
+pub struct Site1 {
+    pub first: u8,
+    pub second: u8,
+    pub litres: u16,
+}
+
+// The site at a place.
+pub fn site_at1(table: &[Site1], i: usize) -> Site1
+    requires { ⌜ i < length (now table) ⌝ }
+    ensures { λ r. ⌜ r ≡ getD (now (table .entry)) i noSite1 ⌝ }
+{
+    table[i]
+}
+
+// A site goes to a place. The other places keep their content.
+pub fn put_site1(table: &mut [Site1], i: usize, s: Site1)
+    requires { ⌜ i < length (now table) ⌝ }
+    ensures { λ _. ⌜ now (table .exit) ≡ set (now (table .entry)) i s ⌝ }
+{
+    table[i] = s;
+}
+
+// The number of places.
+pub fn places1(table: &[Site1]) -> usize
+    ensures { λ r. ⌜ r ≡ length (now (table .entry)) ⌝ }
+{
+    table.len()
+}
+
+// The same of a table lent for changes.
+pub fn places_mut1(table: &mut [Site1]) -> usize
+    ensures { λ r. ⌜ (r ≡ length (now (table .entry))) × (now (table .exit) ≡ now (table .entry)) ⌝ }
+{
+    table.len()
+}
+
+// How many sites a table of so many places can hold: at most 512.
+pub fn capacity(places: usize) -> usize
+    ensures { λ r. ⌜ r ≡ min places 512 ⌝ }
+{
+    if places < 512 { places } else { 512 }
+}
+
+// Copy in: the table by value, as many places as can hold sites, and blank places after them.
+pub fn held1(table: &[Site1]) -> [Site1; 512]
+    ensures { λ r. ⌜ r ≡ heldOf noSite1 (now (table .entry)) ⌝ }
+{
+    let count = capacity(table.len());
+    let mut a = [Site1 {
+        first: 0,
+        second: 0,
+        litres: 0,
+    }; 512];
+    let mut i = 0;
+    while i < count {
+        a[i] = table[i];
+        i += 1;
+    }
+    a
+}
+
+// Copy out: the first n sites go to the table. Its other places keep their content.
+pub fn store1(table: &mut [Site1], sites: [Site1; 512], n: usize)
+    requires { ⌜ (n ≤ 512) × (n ≤ length (now table)) ⌝ }
+    ensures { λ _. ⌜ now (table .exit) ≡ overlay n sites (now (table .entry)) ⌝ }
+{
+    let mut i = 0;
+    while i < n {
+        table[i] = sites[i];
+        i += 1;
+    }
+}
+
+// A site of edition 1 as the definition has it.
+pub fn widen(s: Site1) -> Site
+    ensures { λ r. ⌜ r ≡ widened s ⌝ }
+{
+    Site {
+        first: s.first,
+        second: s.second,
+        litres: s.litres as u32,
+    }
+}
+
+// A site as edition 1 has it.
+pub fn narrow(s: Site) -> Site1
+    requires { ⌜ s .litres < 2 ^ 16 ⌝ }
+    ensures { λ r. ⌜ r ≡ narrowed s ⌝ }
+{
+    Site1 {
+        first: s.first,
+        second: s.second,
+        litres: s.litres as u16,
+    }
+}
+
+// The 512 places wide, each as `widen` has it.
+pub fn widen_all(sites: [Site1; 512]) -> [Site; 512]
+    ensures { λ r. ⌜ (r ≡ map widened sites) × LitresFit r ⌝ }
+{
+    let mut a = [Site {
+        first: 0,
+        second: 0,
+        litres: 0,
+    }; 512];
+    let mut i: usize = 0;
+    while i < 512 {
+        a[i] = widen(sites[i]);
+        i += 1;
+    }
+    a
+}
+
+// The 512 places narrow, each as `narrow` has it.
+pub fn narrow_all(sites: [Site; 512]) -> [Site1; 512]
+    requires { ⌜ LitresFit sites ⌝ }
+    ensures { λ r. ⌜ r ≡ map narrowed sites ⌝ }
+{
+    let mut a = [Site1 {
+        first: 0,
+        second: 0,
+        litres: 0,
+    }; 512];
+    let mut i: usize = 0;
+    while i < 512 {
+        a[i] = narrow(sites[i]);
+        i += 1;
+    }
+    a
+}
