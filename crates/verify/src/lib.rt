@@ -7,7 +7,7 @@ ghost use mathlib.Core.Bool.{false, not, _||_};
 ghost use mathlib.Core.List.{List};
 ghost use Prim.Native.Nat.{ℕ, _+_, _*_, _<_, _≤_, _^_, max};
 ghost use lib.Dec.{T};
-ghost use lib.ListN.{length, getD, set, take};
+ghost use lib.ListN.{length, getD, take, replicate};
 ghost use Rattle.sets.specs.Set.{_∪_, _∩_, has, setOf, isEmpty};
 ghost use Rattle.density.specs.Network.{Listing, Network, names, network, depotsInRange, size};
 ghost use Rattle.density.specs.Plan.{union, place, groupSize, groupLitres};
@@ -208,16 +208,6 @@ fn shares_broken(list: ListArray, plan: PlanArray, places: &[u8], sizes: &[u64])
     false
 }
 
-// The array with an amount added at one place.
-fn add_load(loads: [u64; 64], d: u8, amount: u64) -> [u64; 64]
-    requires { ⌜ (d < 64) × (getD loads d 0 + amount < 2 ^ 64) ⌝ }
-    ensures { λ r. ⌜ r ≡ set loads d (getD loads d 0 + amount) ⌝ }
-{
-    let mut r = loads;
-    r[d as usize] = r[d as usize] + amount;
-    r
-}
-
 // W of each group, in one pass over the sites.
 pub fn litres(list: ListArray, places: &[u8]) -> [u64; 64]
     requires { ⌜ Placed list (now places) ⌝ }
@@ -227,29 +217,37 @@ pub fn litres(list: ListArray, places: &[u8]) -> [u64; 64]
     let mut i: usize = 0;
     while i < list.count {
         let s = list.sites[i];
-        let k = later(places[s.first as usize], places[s.second as usize]);
-        let next = add_load(r, k, litres_of(s));
-        r = next;
+        let w = litres_of(s);
+        let k = later(places[s.first as usize], places[s.second as usize]) as usize;
+        r[k] = r[k] + w;
         i += 1;
     }
     r
 }
 
-// For each of the 64 depots, its scaled load.
-fn loads(list: ListArray, plan: PlanArray, places: &[u8], sizes: &[u64]) -> [u64; 64]
+// For each of the 64 depots, its scaled load: the array, all zero, is passed and returned by value, and one place is changed for each end of a site.
+fn loads(
+    zero: [u64; 64],
+    list: ListArray,
+    plan: PlanArray,
+    places: &[u8],
+    sizes: &[u64],
+) -> [u64; 64]
+    requires { ⌜ zero ≡ replicate 64 0 ⌝ }
     requires { ⌜ Ready list plan × Tables list plan (now places) (now sizes) ⌝ }
     requires { ⌜ sharesBroken (net list) (groupsIn list plan) (sharesIn list plan) ≡ false ⌝ }
     ensures { λ r. ⌜ Holds r (scaledLoad (net list) (groupsIn list plan) (sharesIn list plan)) 64 ⌝ }
 {
-    let mut r = [0u64; 64];
+    let mut r = zero;
     let mut i: usize = 0;
     while i < list.count {
         let s = list.sites[i];
         let all = whole(s, places, sizes);
         let share = plan.shares[i];
-        let one = add_load(r, s.first, share);
-        let both = add_load(one, s.second, all - share);
-        r = both;
+        let a = s.first as usize;
+        let b = s.second as usize;
+        r[a] = r[a] + share;
+        r[b] = r[b] + (all - share);
         i += 1;
     }
     r
@@ -276,7 +274,7 @@ fn loads_uneven(
     ensures { λ r. ⌜ r ≡ loadsUneven (net list) (groupsIn list plan) (sharesIn list plan) ⌝ }
 {
     let all = listed(list);
-    let sums = loads(list, plan, places, sizes);
+    let sums = loads([0u64; 64], list, plan, places, sizes);
     let mut d: u8 = 0;
     while d < 64 {
         if sets::contains(all, d) {

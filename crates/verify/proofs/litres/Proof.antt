@@ -1,4 +1,5 @@
 -- `verify::litres` meets its contract. The invariant: each place has the litres of the sites passed that it carries. Assumes nothing.
+use mathlib.Core.Path.{refl}
 use Prim.Native.Nat.{_-_, _≤_, _<_, _^_}
 use native.Mathlib.Omega.{arith}
 use native.Mathlib.Nat.{le-of-suc-le}
@@ -22,46 +23,70 @@ mul-s c = omega (arith, c .before .before .before .pre .sites .0)
 element-copy-out-s : tie.Need-element-copy-out-s Inv-loop μ-loop
 element-copy-out-s c = omega (arith, c .before .before .before .pre .sites .0)
 
+litres-of-requires : tie.Need-litres-of-requires Inv-loop μ-loop
+litres-of-requires c κs = search needs
+
 cast-later : tie.Need-cast-later Inv-loop μ-loop
 cast-later c = search needs
 
 shared-slice-read-later : tie.Need-shared-slice-read-later Inv-loop μ-loop
-shared-slice-read-later c = omega (arith, c .before .before .before .before .before .before .pre .depots (c .before .before .before .before .loop .i) (c .before .before .before .loop-test .taken) .0, c .before .before .before .before .before .before .pre .length-places)
+shared-slice-read-later c = omega (arith, c .before .before .before .before .before .before .before .pre .depots (c .before .before .before .before .before .loop .i) (c .before .before .before .before .loop-test .taken) .0, c .before .before .before .before .before .before .before .pre .length-places)
 
 cast-later-2 : tie.Need-cast-later-2 Inv-loop μ-loop
 cast-later-2 c = search needs
 
 shared-slice-read-later-2 : tie.Need-shared-slice-read-later-2 Inv-loop μ-loop
-shared-slice-read-later-2 c = omega (arith, c .before .before .before .before .before .before .before .before .pre .depots (c .before .before .before .before .before .before .loop .i) (c .before .before .before .before .before .loop-test .taken) .1, c .before .before .before .before .before .before .before .before .pre .length-places)
+shared-slice-read-later-2 c = omega (arith, c .before .before .before .before .before .before .before .before .before .pre .depots (c .before .before .before .before .before .before .before .loop .i) (c .before .before .before .before .before .before .loop-test .taken) .1, c .before .before .before .before .before .before .before .before .before .pre .length-places)
 
 later-requires : tie.Need-later-requires Inv-loop μ-loop
 later-requires c κs = search needs
 
-litres-of-requires : tie.Need-litres-of-requires Inv-loop μ-loop
-litres-of-requires c κs = search needs
+cast-k : tie.Need-cast-k Inv-loop μ-loop
+cast-k c = search needs
 
-add-load-requires : tie.Need-add-load-requires Inv-loop μ-loop
-add-load-requires c κs =
-    let s = c .before .before .before .before .before .before .before .before .before .before in
-    let i = c .before .before .before .before .before .before .before .before .loop .i in
-    let p = s .pre .low i (c .before .before .before .before .before .before .before .loop-test .taken) in
-    let k : c .before .later .result < 64 = omega (arith, c .before .later .ensures, p .0, p .1) in
-    (k, omega (arith, c .before .before .before .before .before .before .before .before .loop .inv .1 .low (c .before .later .result) k, c .litres-of .ensures .1, s .pre .sites .0))
+mul-r : tie.Need-mul-r Inv-loop μ-loop
+mul-r c =
+    let p = c .before .before .before .before .before .before .before .before .before .before .pre .low (c .before .before .before .before .before .before .before .before .loop .i) (c .before .before .before .before .before .before .before .loop-test .taken) in
+    let k : c .later .result < 64 = omega (arith, c .later .ensures, p .0, p .1) in
+    omega (arith, c .before .before .before .before .before .before .before .before .loop .inv .1 .wide)
+
+array-read-r : tie.Need-array-read-r Inv-loop μ-loop
+array-read-r c =
+    let p = c .before .before .before .before .before .before .before .before .before .before .pre .low (c .before .before .before .before .before .before .before .before .loop .i) (c .before .before .before .before .before .before .before .loop-test .taken) in
+    let k : c .later .result < 64 = omega (arith, c .later .ensures, p .0, p .1) in
+    omega (arith, c .before .before .before .before .before .before .before .before .loop .inv .1 .wide)
+
+add-r : tie.Need-add-r Inv-loop μ-loop
+add-r c =
+    let p = c .before .before .before .before .before .before .before .before .before .before .pre .low (c .before .before .before .before .before .before .before .before .loop .i) (c .before .before .before .before .before .before .before .loop-test .taken) in
+    let k : c .later .result < 64 = omega (arith, c .later .ensures, p .0, p .1) in
+    omega (arith, c .before .before .before .before .before .before .before .before .loop .inv .1 .low (c .later .result) k, c .before .before .before .before .before .litres-of .ensures .1, c .before .before .before .before .before .before .before .before .before .before .pre .sites .0)
+
+mul-r-2 : tie.Need-mul-r-2 Inv-loop μ-loop
+mul-r-2 c =
+    let p = c .before .before .before .before .before .before .before .before .before .before .pre .low (c .before .before .before .before .before .before .before .before .loop .i) (c .before .before .before .before .before .before .before .loop-test .taken) in
+    let k : c .later .result < 64 = omega (arith, c .later .ensures, p .0, p .1) in
+    omega (arith, c .before .before .before .before .before .before .before .before .loop .inv .1 .wide)
+
+array-write-r : tie.Need-array-write-r Inv-loop μ-loop
+array-write-r c =
+    let p = c .before .before .before .before .before .before .before .before .before .before .pre .low (c .before .before .before .before .before .before .before .before .loop .i) (c .before .before .before .before .before .before .before .loop-test .taken) in
+    let k : c .later .result < 64 = omega (arith, c .later .ensures, p .0, p .1) in
+    omega (arith, c .before .before .before .before .before .before .before .before .loop .inv .1 .wide)
 
 add-i : tie.Need-add-i Inv-loop μ-loop
-add-i c = omega (arith, c .before .before .before .before .before .before .before .before .before .before .before .pre .sites .0)
+add-i c = omega (arith, c .before .before .before .before .before .before .before .before .before .before .pre .sites .0)
 
 loop-less : tie.Need-loop-less Inv-loop μ-loop
 loop-less c = search needs
 
 loop-again : tie.Need-loop-again Inv-loop μ-loop
 loop-again c =
-    let s = c .before .before .before .before .before .before .before .before .before .before .before in
-    let i = c .before .before .before .before .before .before .before .before .before .loop .i in
-    let p = s .pre .low i (c .before .before .before .before .before .before .before .before .loop-test .taken) in (
+    let p = c .before .before .before .before .before .before .before .before .before .before .pre .low (c .before .before .before .before .before .before .before .before .loop .i) (c .before .before .before .before .before .before .before .loop-test .taken) in
+    let k : c .later .result < 64 = omega (arith, c .later .ensures, p .0, p .1) in (
       search needs,
-      summed-one (carried (s .args .t1 .sites) (s .args .places .now)) (2 ^ 32) _ _ i (c .before .before .later .result) (c .before .litres-of .result) (c .before .before .before .before .before .before .before .before .before .loop .inv .1) (omega (arith, c .before .before .later .ensures, p .0, p .1))
-          (le-of-suc-le (c .before .litres-of .ensures .1)) (c .add-load .ensures) (λ k. rw (c .before .before .later .ensures, c .before .litres-of .ensures .0)),
+      summed-one (carried (c .before .before .before .before .before .before .before .before .before .before .args .t1 .sites) (c .before .before .before .before .before .before .before .before .before .before .args .places .now)) (2 ^ 32) _ _ (c .before .before .before .before .before .before .before .before .loop .i) (c .later .result) (c .before .before .before .before .before .litres-of .result) (c .before .before .before .before .before .before .before .before .loop .inv .1) k
+          (le-of-suc-le (c .before .before .before .before .before .litres-of .ensures .1)) refl (λ k. rw (c .later .ensures, c .before .before .before .before .before .litres-of .ensures .0)),
     )
 
 returns : tie.Need-returns Inv-loop μ-loop
@@ -76,13 +101,18 @@ litres-spec =
     loop-holds
     mul-s
     element-copy-out-s
+    litres-of-requires
     cast-later
     shared-slice-read-later
     cast-later-2
     shared-slice-read-later-2
     later-requires
-    litres-of-requires
-    add-load-requires
+    cast-k
+    mul-r
+    array-read-r
+    add-r
+    mul-r-2
+    array-write-r
     add-i
     loop-less
     loop-again

@@ -1,8 +1,7 @@
 -- `verify::loads` meets its contract. The invariant: each depot has its shares of the sites passed. Assumes nothing.
-use mathlib.Core.Path.{ap}
-use Prim.Native.Nat.{ℕ, _-_, _≤_, _^_}
+use mathlib.Core.Path.{refl}
+use Prim.Native.Nat.{_-_, _≤_, _^_}
 use native.Mathlib.Omega.{arith}
-use mathlib.Core.List.{List}
 use lib.Dec.{eqb}
 use Rattle.density.specs.Network.{noSite}
 use lib.ListN.{getD}
@@ -23,66 +22,134 @@ abbrev μ-loop : tie.MeasureT-loop
 μ-loop places sizes list plan r₀ i₀ r i = list .count - i
 
 loop-holds : tie.Need-loop-holds Inv-loop μ-loop
-loop-holds c = (search needs, summed-start _ _)
+loop-holds c = (search needs, rw (c .before .before .pre .0) (summed-start _ _))
 
 mul-s : tie.Need-mul-s Inv-loop μ-loop
-mul-s c = omega (arith, c .before .before .before .before .pre .0 .0 .counted .sites)
+mul-s c = omega (arith, c .before .before .before .before .pre .1 .0 .0 .counted .sites)
 
 element-copy-out-s : tie.Need-element-copy-out-s Inv-loop μ-loop
-element-copy-out-s c = omega (arith, c .before .before .before .before .pre .0 .0 .counted .sites)
+element-copy-out-s c = omega (arith, c .before .before .before .before .pre .1 .0 .0 .counted .sites)
 
 whole-requires : tie.Need-whole-requires Inv-loop μ-loop
 whole-requires c κs =
     let s = c .before .before .before .before .before in
     let i = c .before .before .loop .i in
     let l = c .before .loop-test .taken in
-    asked (s .args .t1) (s .args .t2) (s .pre .0 .0) (s .args .places .now) (s .args .sizes .now) (s .pre .0 .1) i l
+    asked (s .args .t2) (s .args .t3) (s .pre .1 .0 .0) (s .args .places .now) (s .args .sizes .now) (s .pre .1 .0 .1) i l
 
 mul-share : tie.Need-mul-share Inv-loop μ-loop
-mul-share c = omega (arith, c .before .before .before .before .before .before .pre .0 .0 .counted .sites)
+mul-share c = omega (arith, c .before .before .before .before .before .before .pre .1 .0 .0 .counted .sites)
 
 element-copy-out-share : tie.Need-element-copy-out-share Inv-loop μ-loop
-element-copy-out-share c = omega (arith, c .before .before .before .before .before .before .pre .0 .0 .counted .sites)
+element-copy-out-share c = omega (arith, c .before .before .before .before .before .before .pre .1 .0 .0 .counted .sites)
 
-add-load-requires : tie.Need-add-load-requires Inv-loop μ-loop
-add-load-requires c κs =
-    let s = c .before .before .before .before .before .before .before in
-    let i = c .before .before .before .before .loop .i in
-    let l = c .before .before .before .loop-test .taken in
-    let d = depots-small (s .args .t1) (s .args .t2) (s .pre .0 .0) (s .args .places .now) (s .args .sizes .now) (s .pre .0 .1) i l .0 in
-    (d, omega (arith, c .before .before .before .before .loop .inv .1 .low _ d, share-≤ (s .args .t1) (s .args .t2) (s .pre .0 .0) (s .args .places .now) (s .args .sizes .now) (s .pre .0 .1) i l (s .pre .1), c .before .whole .ensures .0, c .before .whole .ensures .1, s .pre .0 .0 .counted .sites))
+cast-a : tie.Need-cast-a Inv-loop μ-loop
+cast-a c = search needs
 
-sub-add-load : tie.Need-sub-add-load Inv-loop μ-loop
-sub-add-load c =
-    let s = c .before .before .before .before .before .before .before .before in
-    let i = c .before .before .before .before .before .loop .i in
-    let l = c .before .before .before .before .loop-test .taken in
-    omega (arith, share-≤ (s .args .t1) (s .args .t2) (s .pre .0 .0) (s .args .places .now) (s .args .sizes .now) (s .pre .0 .1) i l (s .pre .1), c .before .before .whole .ensures .0)
+cast-b : tie.Need-cast-b Inv-loop μ-loop
+cast-b c = search needs
 
-add-load-requires-2 : tie.Need-add-load-requires-2 Inv-loop μ-loop
-add-load-requires-2 c κs =
-    let s = c .before .before .before .before .before .before .before .before in
-    let i = c .before .before .before .before .before .loop .i in
-    let l = c .before .before .before .before .loop-test .taken in
-    let site = getD (s .args .t1 .sites) i noSite in
-    let x = getD (s .args .t2 .shares) i 0 in
-    let d = depots-small (s .args .t1) (s .args .t2) (s .pre .0 .0) (s .args .places .now) (s .args .sizes .now) (s .pre .0 .1) i l in (
-      d .1,
-      omega (
-        arith,
-        c .before .before .before .before .before .loop .inv .1 .low (site .second) (d .1),
-        ap (λ (a : List ℕ). getD a (site .second) 0) (c .add-load .ensures),
-        added (c .before .before .before .before .before .loop .r) (site .first) x (omega (arith, d .0, c .before .before .before .before .before .loop .inv .1 .wide)) (site .second),
-        when-≤ (eqb (site .first) (site .second)) x,
-        share-≤ (s .args .t1) (s .args .t2) (s .pre .0 .0) (s .args .places .now) (s .args .sizes .now) (s .pre .0 .1) i l (s .pre .1),
-        c .before .before .whole .ensures .0,
-        c .before .before .whole .ensures .1,
-        s .pre .0 .0 .counted .sites,
-      ),
+mul-r : tie.Need-mul-r Inv-loop μ-loop
+mul-r c =
+    let s = c .before .before .before .before .before .before .before .before .before in
+    let i = c .before .before .before .before .before .before .loop .i in
+    let l = c .before .before .before .before .before .loop-test .taken in
+    let d = depots-small (s .args .t2) (s .args .t3) (s .pre .1 .0 .0) (s .args .places .now) (s .args .sizes .now) (s .pre .1 .0 .1) i l in
+    omega (arith, d .0, c .before .before .before .before .before .before .loop .inv .1 .wide)
+
+array-read-r : tie.Need-array-read-r Inv-loop μ-loop
+array-read-r c =
+    let s = c .before .before .before .before .before .before .before .before .before in
+    let i = c .before .before .before .before .before .before .loop .i in
+    let l = c .before .before .before .before .before .loop-test .taken in
+    let d = depots-small (s .args .t2) (s .args .t3) (s .pre .1 .0 .0) (s .args .places .now) (s .args .sizes .now) (s .pre .1 .0 .1) i l in
+    omega (arith, d .0, c .before .before .before .before .before .before .loop .inv .1 .wide)
+
+add-r : tie.Need-add-r Inv-loop μ-loop
+add-r c =
+    let s = c .before .before .before .before .before .before .before .before .before in
+    let i = c .before .before .before .before .before .before .loop .i in
+    let l = c .before .before .before .before .before .loop-test .taken in
+    let d = depots-small (s .args .t2) (s .args .t3) (s .pre .1 .0 .0) (s .args .places .now) (s .args .sizes .now) (s .pre .1 .0 .1) i l in
+    omega (arith, c .before .before .before .before .before .before .loop .inv .1 .low _ (d .0), share-≤ (s .args .t2) (s .args .t3) (s .pre .1 .0 .0) (s .args .places .now) (s .args .sizes .now) (s .pre .1 .0 .1) i l (s .pre .1 .1), c .before .before .before .whole .ensures .0, c .before .before .before .whole .ensures .1, s .pre .1 .0 .0 .counted .sites)
+
+mul-r-2 : tie.Need-mul-r-2 Inv-loop μ-loop
+mul-r-2 c =
+    let s = c .before .before .before .before .before .before .before .before .before in
+    let i = c .before .before .before .before .before .before .loop .i in
+    let l = c .before .before .before .before .before .loop-test .taken in
+    let d = depots-small (s .args .t2) (s .args .t3) (s .pre .1 .0 .0) (s .args .places .now) (s .args .sizes .now) (s .pre .1 .0 .1) i l in
+    omega (arith, d .0, c .before .before .before .before .before .before .loop .inv .1 .wide)
+
+array-write-r : tie.Need-array-write-r Inv-loop μ-loop
+array-write-r c =
+    let s = c .before .before .before .before .before .before .before .before .before in
+    let i = c .before .before .before .before .before .before .loop .i in
+    let l = c .before .before .before .before .before .loop-test .taken in
+    let d = depots-small (s .args .t2) (s .args .t3) (s .pre .1 .0 .0) (s .args .places .now) (s .args .sizes .now) (s .pre .1 .0 .1) i l in
+    omega (arith, d .0, c .before .before .before .before .before .before .loop .inv .1 .wide)
+
+mul-r-3 : tie.Need-mul-r-3 Inv-loop μ-loop
+mul-r-3 c =
+    let s = c .before .before .before .before .before .before .before .before .before in
+    let i = c .before .before .before .before .before .before .loop .i in
+    let l = c .before .before .before .before .before .loop-test .taken in
+    let d = depots-small (s .args .t2) (s .args .t3) (s .pre .1 .0 .0) (s .args .places .now) (s .args .sizes .now) (s .pre .1 .0 .1) i l in
+    omega (arith, d .1, c .before .before .before .before .before .before .loop .inv .1 .wide)
+
+array-read-r-2 : tie.Need-array-read-r-2 Inv-loop μ-loop
+array-read-r-2 c =
+    let s = c .before .before .before .before .before .before .before .before .before in
+    let i = c .before .before .before .before .before .before .loop .i in
+    let l = c .before .before .before .before .before .loop-test .taken in
+    let d = depots-small (s .args .t2) (s .args .t3) (s .pre .1 .0 .0) (s .args .places .now) (s .args .sizes .now) (s .pre .1 .0 .1) i l in
+    omega (arith, d .1, c .before .before .before .before .before .before .loop .inv .1 .wide)
+
+sub-r : tie.Need-sub-r Inv-loop μ-loop
+sub-r c =
+    let s = c .before .before .before .before .before .before .before .before .before in
+    let i = c .before .before .before .before .before .before .loop .i in
+    let l = c .before .before .before .before .before .loop-test .taken in
+    let d = depots-small (s .args .t2) (s .args .t3) (s .pre .1 .0 .0) (s .args .places .now) (s .args .sizes .now) (s .pre .1 .0 .1) i l in
+    omega (arith, share-≤ (s .args .t2) (s .args .t3) (s .pre .1 .0 .0) (s .args .places .now) (s .args .sizes .now) (s .pre .1 .0 .1) i l (s .pre .1 .1), c .before .before .before .whole .ensures .0, c .before .before .before .whole .ensures .1, s .pre .1 .0 .0 .counted .sites)
+
+add-r-2 : tie.Need-add-r-2 Inv-loop μ-loop
+add-r-2 c =
+    let s = c .before .before .before .before .before .before .before .before .before in
+    let i = c .before .before .before .before .before .before .loop .i in
+    let l = c .before .before .before .before .before .loop-test .taken in
+    let d = depots-small (s .args .t2) (s .args .t3) (s .pre .1 .0 .0) (s .args .places .now) (s .args .sizes .now) (s .pre .1 .0 .1) i l in
+    let site = getD (s .args .t2 .sites) i noSite in
+    let x = getD (s .args .t3 .shares) i 0 in
+    omega (
+      arith,
+      c .before .before .before .before .before .before .loop .inv .1 .low (site .second) (d .1),
+      added (c .before .before .before .before .before .before .loop .r) (site .first) x (omega (arith, d .0, c .before .before .before .before .before .before .loop .inv .1 .wide)) (site .second),
+      when-≤ (eqb (site .first) (site .second)) x,
+      share-≤ (s .args .t2) (s .args .t3) (s .pre .1 .0 .0) (s .args .places .now) (s .args .sizes .now) (s .pre .1 .0 .1) i l (s .pre .1 .1),
+      c .before .before .before .whole .ensures .0,
+      c .before .before .before .whole .ensures .1,
+      s .pre .1 .0 .0 .counted .sites,
     )
 
+mul-r-4 : tie.Need-mul-r-4 Inv-loop μ-loop
+mul-r-4 c =
+    let s = c .before .before .before .before .before .before .before .before .before in
+    let i = c .before .before .before .before .before .before .loop .i in
+    let l = c .before .before .before .before .before .loop-test .taken in
+    let d = depots-small (s .args .t2) (s .args .t3) (s .pre .1 .0 .0) (s .args .places .now) (s .args .sizes .now) (s .pre .1 .0 .1) i l in
+    omega (arith, d .1, c .before .before .before .before .before .before .loop .inv .1 .wide)
+
+array-write-r-2 : tie.Need-array-write-r-2 Inv-loop μ-loop
+array-write-r-2 c =
+    let s = c .before .before .before .before .before .before .before .before .before in
+    let i = c .before .before .before .before .before .before .loop .i in
+    let l = c .before .before .before .before .before .loop-test .taken in
+    let d = depots-small (s .args .t2) (s .args .t3) (s .pre .1 .0 .0) (s .args .places .now) (s .args .sizes .now) (s .pre .1 .0 .1) i l in
+    omega (arith, d .1, c .before .before .before .before .before .before .loop .inv .1 .wide)
+
 add-i : tie.Need-add-i Inv-loop μ-loop
-add-i c = omega (arith, c .before .before .before .before .before .before .before .before .before .pre .0 .0 .counted .sites)
+add-i c = omega (arith, c .before .before .before .before .before .before .before .before .before .pre .1 .0 .0 .counted .sites)
 
 loop-less : tie.Need-loop-less Inv-loop μ-loop
 loop-less c = search needs
@@ -92,19 +159,17 @@ loop-again c =
     let s = c .before .before .before .before .before .before .before .before .before in
     let i = c .before .before .before .before .before .before .loop .i in
     let l = c .before .before .before .before .before .loop-test .taken in
-    let site = getD (s .args .t1 .sites) i noSite in
+    let d = depots-small (s .args .t2) (s .args .t3) (s .pre .1 .0 .0) (s .args .places .now) (s .args .sizes .now) (s .pre .1 .0 .1) i l in
+    let site = getD (s .args .t2 .sites) i noSite in
+    let x = getD (s .args .t3 .shares) i 0 in
     let all = c .before .before .before .whole .result in
-    let x = getD (s .args .t2 .shares) i 0 in
-    let d = depots-small (s .args .t1) (s .args .t2) (s .pre .0 .0) (s .args .places .now) (s .args .sizes .now) (s .pre .0 .1) i l in
-    let e = rw (← (c .before .before .before .whole .ensures .0)) at (entry (s .args .t1) (s .args .t2) (s .pre .0 .0) (s .args .places .now) (s .args .sizes .now) (s .pre .0 .1) i l) in (
+    let e = rw (← (c .before .before .before .whole .ensures .0)) at (entry (s .args .t2) (s .args .t3) (s .pre .1 .0 .0) (s .args .places .now) (s .args .sizes .now) (s .pre .1 .0 .1) i l) in (
       search needs,
-      summed-two _ (2 ^ 42) _ _ _ i (site .first) x (site .second) (all - x) (c .before .before .before .before .before .before .loop .inv .1) (d .0) (d .1)
-          (omega (arith, share-≤ (s .args .t1) (s .args .t2) (s .pre .0 .0) (s .args .places .now) (s .args .sizes .now) (s .pre .0 .1) i l (s .pre .1), c .before .before .before .whole .ensures .0, c .before .before .before .whole .ensures .1)) (c .before .add-load .ensures) (c .add-load2 .ensures)
-          (share-of _ _ _ i _ _ _ all x e),
+      summed-two _ (2 ^ 42) _ _ _ i (site .first) x (site .second) (all - x) (c .before .before .before .before .before .before .loop .inv .1) (d .0) (d .1) (omega (arith, share-≤ (s .args .t2) (s .args .t3) (s .pre .1 .0 .0) (s .args .places .now) (s .args .sizes .now) (s .pre .1 .0 .1) i l (s .pre .1 .1), c .before .before .before .whole .ensures .0, c .before .before .before .whole .ensures .1, s .pre .1 .0 .0 .counted .sites)) refl refl (share-of _ _ _ i _ _ _ all x e),
     )
 
 returns : tie.Need-returns Inv-loop μ-loop
-returns c = loads-end (c .before .before .before .before .args .t1) (c .before .before .before .before .args .t2) (c .before .before .before .before .pre .0 .0) _ (c .before .loop .i) (omega arith) (c .before .loop .inv .1)
+returns c = loads-end (c .before .before .before .before .args .t2) (c .before .before .before .before .args .t3) (c .before .before .before .before .pre .1 .0 .0) _ (c .before .loop .i) (omega arith) (c .before .loop .inv .1)
 
 pub loads-spec : {M : Type 1} → statement M
 loads-spec =
@@ -118,9 +183,19 @@ loads-spec =
     whole-requires
     mul-share
     element-copy-out-share
-    add-load-requires
-    sub-add-load
-    add-load-requires-2
+    cast-a
+    cast-b
+    mul-r
+    array-read-r
+    add-r
+    mul-r-2
+    array-write-r
+    mul-r-3
+    array-read-r-2
+    sub-r
+    add-r-2
+    mul-r-4
+    array-write-r-2
     add-i
     loop-less
     loop-again

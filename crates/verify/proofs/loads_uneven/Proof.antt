@@ -1,5 +1,5 @@
 -- `verify::loads_uneven` meets its contract. The invariant: no depot passed is listed and uneven. Assumes nothing.
-use mathlib.Core.Path.{_≡_, sym, ap, _∙_}
+use mathlib.Core.Path.{_≡_, refl, sym, ap, _∙_}
 use Prim.Native.Nat.{_-_, _≤_}
 use native.Mathlib.Omega.{arith}
 use mathlib.Core.Bool.{false}
@@ -23,7 +23,7 @@ listed-requires : tie.Need-listed-requires Inv-loop μ-loop
 listed-requires c κs = (c .before .before .before .pre .0 .0 .counted .sites, c .before .before .before .pre .0 .0 .counted .range)
 
 loads-requires : tie.Need-loads-requires Inv-loop μ-loop
-loads-requires c κs = ((c .before .before .before .before .pre .0), (c .before .before .before .before .pre .1 .0))
+loads-requires c κs = (refl, (c .before .before .before .before .pre .0, c .before .before .before .before .pre .1 .0))
 
 loop-holds : tie.Need-loop-holds Inv-loop μ-loop
 loop-holds c = (search needs, λ l. any-start _)
