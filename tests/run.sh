@@ -1,10 +1,11 @@
 #!/usr/bin/env bash
-# Tests of the static library from Rust and from C.
+# Tests of the static library from Rust and from C, and of the program `plan` with tools/list.sh.
 #
 #     tests/run.sh [--cases N] [--seed S]
 #
 # Builds target/staticlib/libengine.a by `rt staticlib engine`, unless it is there and newer than
 # everything under crates/. With SULGHETI_LIB set, the archive in that folder is tested instead.
+# Builds target/bin/plan and target/bin/console by `rt check`, unless they are there.
 # Needs cargo and a C compiler; no network. Exit status 0: all passed.
 set -euo pipefail
 [ -z "${SULGHETI_LIB:-}" ] || SULGHETI_LIB=$(cd "$SULGHETI_LIB" && pwd)
@@ -24,6 +25,12 @@ if [ -z "${SULGHETI_LIB:-}" ]; then
 fi
 
 export SULGHETI_LIB
+
+# lists in words, and their plans for a person to read
+if [ ! -x target/bin/plan ] || [ ! -x target/bin/console ]; then
+    rt check plan console >target/programs.log 2>&1 || { cat target/programs.log; exit 1; }
+fi
+bash tests/plan.sh
 
 # the C program
 "${CC:-cc}" -std=c99 -Wall -Wextra -Werror -O2 -Iinclude tests/c/check_t.c "$SULGHETI_LIB/libengine.a" -o target/check_t
