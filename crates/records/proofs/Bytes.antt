@@ -2,9 +2,9 @@
 use Prim.Native.Nat.{ℕ, zero, suc, _+_, _*_, _/_, _%_, _<_, _≤_, _^_}
 use mathlib.Core.List.{List, [], _∷_}
 use mathlib.Core.Path.{_≡_, refl, ap, _∙_}
-use lib.ListN.{length, take, drop, length-take}
-use lib.Seq.{getD-drop, drop-drop, take-take}
-use native.Mathlib.Nat.{not-suc-le-zero, pow-suc, lt-of-lt-of-le, pow-le-pow-right}
+use lib.ListN.{length, take, drop, getD, length-take, length-drop}
+use lib.Seq.{getD-drop, drop-drop, take-take, length-take-le}
+use native.Mathlib.Nat.{zero-add, suc-add, not-suc-le-zero, pow-suc, lt-of-lt-of-le, pow-le-pow-right}
 use lib.Dec.{lit<}
 use native.Mathlib.Omega.{arith}
 use Rattle.records.specs.Bytes.{Bytes, le, value, Value, field}
@@ -43,6 +43,28 @@ value-cons h r = record { is = omega (arith, r .is); small = rw pow-suc (omega (
 
 pub value-below : (w : ℕ) {v : ℕ} {s : List ℕ} → length s ≤ w → Value s v → v < 256 ^ w
 value-below w h r = lt-of-lt-of-le (r .small) (pow-le-pow-right (lit< tt) h)
+
+-- a number of one byte
+pub value-one : (s : List ℕ) (at : ℕ) → at < length s → getD s at 0 < 256 → Value (take 1 (drop at s)) (getD s at 0)
+unfolding value
+value-one [] at h b = absurd (not-suc-le-zero h)
+value-one (x ∷ s) zero h b = record { is = omega arith; small = omega arith }
+value-one (x ∷ s) (suc at) h b = value-one s at (omega arith) b
+
+-- a number's low bytes and its others
+value-split : (a b : ℕ) (s : List ℕ) → a ≤ length s → value (take (a + b) s) ≡ value (take a s) + 256 ^ a * value (take b (drop a s))
+unfolding value
+value-split zero b s h = rw zero-add (omega arith)
+value-split (suc a) b [] h = absurd (not-suc-le-zero h)
+value-split (suc a) b (x ∷ s) h = rw (suc-add, pow-suc) (omega (arith, value-split a b s (omega arith)))
+
+pub value-join : (a b : ℕ) (s : List ℕ) (at : ℕ) {x y : ℕ} → at + (a + b) ≤ length s → Value (take a (drop at s)) x → Value (take b (drop (at + a) s)) y
+    → x + 256 ^ a * y < 256 ^ (a + b) → Value (take (a + b) (drop at s)) (x + 256 ^ a * y)
+value-join a b s at {x} {y} h l r below =
+    record {
+      is = cc (value-split a b (drop at s) (rw length-drop (omega arith)), drop-drop a at s, l .is, r .is);
+      small = rw (length-take-le (a + b) (drop at s) (rw length-drop (omega arith))) below;
+    }
 
 -- the first byte of a number that is written, and the rest
 pub le-step : (w x : ℕ) → le (suc w) x ≡ x % 256 ∷ le w (x / 256)

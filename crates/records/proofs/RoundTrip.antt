@@ -227,22 +227,11 @@ pub record GoodPlan (e : Edition) (p : Plan) : Type 0 where
   pub groups : All (λ (g : ℕ). g < 256 ^ 8) (p .groups)
   pub shares : All (λ (s : ℕ). s < 256 ^ e .share) (p .shares)
 
-module _ (e : Edition) (m : Marked e) (p : Plan) (good : GoodPlan e p) where
-  plan-mark : field (planBytes e p) 0 2 ≡ e .mark .plan
-  unfolding planBytes
-  plan-mark = field-here 2 (e .mark .plan) _ (m .plan)
-
+-- the parts of a plan that was written, whatever its marks
+module _ (e : Edition) (p : Plan) (few : length (p .groups) ≤ 64) where
   plan-groups : groupCount (planBytes e p) ≡ length (p .groups)
   unfolding planBytes
-  plan-groups =
-      field-behind (le 2 (e .mark .plan)) _ 2 0 1 (length-le 2 (e .mark .plan)) ∙ field-here 1 (length (p .groups)) _ (omega (arith, good .few))
-
-  plan-sites : field (planBytes e p) 3 2 ≡ length (p .shares)
-  unfolding planBytes
-  plan-sites =
-      field-behind (le 2 (e .mark .plan)) _ 2 1 2 (length-le 2 (e .mark .plan))
-      ∙ field-behind (le 1 (length (p .groups))) _ 1 0 2 (length-le 1 (length (p .groups)))
-      ∙ field-here 2 (length (p .shares)) _ (omega (arith, good .sites))
+  plan-groups = field-behind (le 2 (e .mark .plan)) _ 2 0 1 (length-le 2 (e .mark .plan)) ∙ field-here 1 (length (p .groups)) _ (omega arith)
 
   plan-body : drop 5 (planBytes e p)
       ≡ flatMap (markBytes (e .mark .group) 8) (p .groups) ++ flatMap (markBytes (e .mark .share) (e .share)) (p .shares)
@@ -259,6 +248,24 @@ module _ (e : Edition) (m : Marked e) (p : Plan) (good : GoodPlan e p) where
       rw (plan-groups, ← (drop-drop (10 * length (p .groups)) 5 (planBytes e p)), plan-body, drop-at g _ _ l)
       (records-flat-last (markBytes (e .mark .share) (e .share)) (2 + e .share) (length-mark (e .mark .share) (e .share)) (p .shares))
 
+  -- its numbers, where they have the widths of their fields
+  plan-numbers : All (λ (g : ℕ). g < 256 ^ 8) (p .groups) → All (λ (s : ℕ). s < 256 ^ e .share) (p .shares)
+      → planOf e (length (p .shares)) (planBytes e p) ≡ p
+  plan-numbers g s =
+      rw (plan-group-records, plan-share-records, numbers-back (e .mark .group) 8 (p .groups) g, numbers-back (e .mark .share) (e .share) (p .shares) s)
+
+module _ (e : Edition) (m : Marked e) (p : Plan) (good : GoodPlan e p) where
+  plan-mark : field (planBytes e p) 0 2 ≡ e .mark .plan
+  unfolding planBytes
+  plan-mark = field-here 2 (e .mark .plan) _ (m .plan)
+
+  plan-sites : field (planBytes e p) 3 2 ≡ length (p .shares)
+  unfolding planBytes
+  plan-sites =
+      field-behind (le 2 (e .mark .plan)) _ 2 1 2 (length-le 2 (e .mark .plan))
+      ∙ field-behind (le 1 (length (p .groups))) _ 1 0 2 (length-le 1 (length (p .groups)))
+      ∙ field-here 2 (length (p .shares)) _ (omega (arith, good .sites))
+
   -- a plan that was written is read back
   pub plan-back : readPlan e (length (p .shares)) (planBytes e p) ≡ passed p
   unfolding readPlan
@@ -266,26 +273,20 @@ module _ (e : Edition) (m : Marked e) (p : Plan) (good : GoodPlan e p) where
       pass (layoutRows e (length (p .shares)) (planBytes e p)) (
         rw (le-ltb (length (planBytes e p)) 5 (omega (arith, length-plan e p)), plan-mark, eq-eqb _ _ refl),
         (
-          rw plan-groups (le-ltb _ _ (good .few)),
+          rw (plan-groups e p (good .few)) (le-ltb _ _ (good .few)),
           (
             rw (plan-sites, eq-eqb _ _ refl),
             (
-              rw (plan-groups, eq-eqb _ _ (length-plan e p)),
+              rw (plan-groups e p (good .few), eq-eqb _ _ (length-plan e p)),
               (
-                rw (plan-group-records, plan-share-records, marks-pass (e .mark .group) 8 (p .groups) (m .group) (good .groups)) (marks-pass (e .mark .share) (e .share) (p .shares) (m .share) (good .shares)),
+                rw (plan-group-records e p (good .few), plan-share-records e p (good .few), marks-pass (e .mark .group) 8 (p .groups) (m .group) (good .groups)) (marks-pass (e .mark .share) (e .share) (p .shares) (m .share) (good .shares)),
                 tt,
               ),
             ),
           ),
         ),
       )
-      ∙ ap passed
-      (rw (
-        plan-group-records,
-        plan-share-records,
-        numbers-back (e .mark .group) 8 (p .groups) (good .groups),
-        numbers-back (e .mark .share) (e .share) (p .shares) (good .shares),
-      ))
+      ∙ ap passed (plan-numbers e p (good .few) (good .groups) (good .shares))
 
 -- what a plan is that was read
 pub record PlanFacts (e : Edition) (n : ℕ) (s : List ℕ) (p : Plan) : Type 0 where
@@ -329,6 +330,12 @@ plan-again e n s b h =
     (rw (le-field s 3 2 b (omega arith), le-field s 2 1 b (omega arith), le-field s 0 2 b (omega arith)))
 
 -- ---- a plan that is laid out for a list
+
+-- its bytes say it, whatever its marks and however long the list
+pub laid-plan : (e : Edition) (l : Listing) (p : Plan) (s : List ℕ) → LaidOut e l p s → planOf e (length (l .sites)) s ≡ p
+laid-plan e l p s o =
+    rw (o .bytes-are, ← (o .each))
+    (plan-numbers e p (o .few) (all-from (λ (g : ℕ). g < 256 ^ 8) 0 (p .groups) (o .sets)) (all-from (λ (s : ℕ). s < 256 ^ e .share) 0 (p .shares) (o .fits)))
 
 pub laid-read : (e : Edition) → Marked e → (l : Listing) {p : Plan} {s : List ℕ} → length (l .sites) ≤ 512 → LaidOut e l p s
     → readPlan e (length (l .sites)) s ≡ passed p

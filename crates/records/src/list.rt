@@ -42,7 +42,7 @@ pub fn site_at(e: Edition, s: &[u8], at: usize) -> SiteRead
 }
 
 // The records of `n` sites behind the head of `s`, each read once.
-pub fn sites(e: Edition, n: usize, s: &[u8]) -> SitesRead
+fn sites_by(e: Edition, n: usize, s: &[u8]) -> SitesRead
     requires { ⌜ (e .litres ≤ 4) × (n ≤ 512) × (4 + siteSize e * n ≤ length (now s)) ⌝ }
     ensures { λ r. ⌜ r ≡ sitesRead e n (now (s .entry)) ⌝ }
 {
@@ -74,6 +74,23 @@ pub fn sites(e: Edition, n: usize, s: &[u8]) -> SitesRead
         depots,
         litres,
     }
+}
+
+// The same. The width of edition 1 is known here, so that it is not asked for at each record.
+pub fn sites(e: Edition, n: usize, s: &[u8]) -> SitesRead
+    requires { ⌜ (e .litres ≤ 4) × (n ≤ 512) × (4 + siteSize e * n ≤ length (now s)) ⌝ }
+    ensures { λ r. ⌜ r ≡ sitesRead e n (now (s .entry)) ⌝ }
+{
+    if e.litres == 2 {
+        let mark = e.mark;
+        let known = Edition {
+            mark,
+            litres: 2,
+            share: e.share,
+        };
+        return sites_by(known, n, s);
+    }
+    sites_by(e, n, s)
 }
 
 // A list that row `n` refuses.

@@ -18,11 +18,49 @@ pub fn value(s: &[u8]) -> u64
     v
 }
 
+// Numbers of one, two, four and eight bytes at a place of `s`, without a loop.
+fn one(s: &[u8], at: usize) -> u64
+    requires { ⌜ at + 1 ≤ length (now s) ⌝ }
+    ensures { λ r. ⌜ Value (take 1 (drop at (now (s .entry)))) r ⌝ }
+{
+    s[at] as u64
+}
+
+fn two(s: &[u8], at: usize) -> u64
+    requires { ⌜ at + 2 ≤ length (now s) ⌝ }
+    ensures { λ r. ⌜ Value (take 2 (drop at (now (s .entry)))) r ⌝ }
+{
+    one(s, at) + 256 * one(s, at + 1)
+}
+
+fn four(s: &[u8], at: usize) -> u64
+    requires { ⌜ at + 4 ≤ length (now s) ⌝ }
+    ensures { λ r. ⌜ Value (take 4 (drop at (now (s .entry)))) r ⌝ }
+{
+    two(s, at) + 65536 * two(s, at + 2)
+}
+
+fn eight(s: &[u8], at: usize) -> u64
+    requires { ⌜ at + 8 ≤ length (now s) ⌝ }
+    ensures { λ r. ⌜ Value (take 8 (drop at (now (s .entry)))) r ⌝ }
+{
+    four(s, at) + 4294967296 * four(s, at + 4)
+}
+
 // The number of `w` bytes at a place of `s`.
 pub fn field(s: &[u8], at: usize, w: usize) -> u64
     requires { ⌜ (w ≤ 8) × (at + w ≤ length (now s)) ⌝ }
     ensures { λ r. ⌜ Value (take w (drop at (now (s .entry)))) r ⌝ }
 {
+    if w == 4 {
+        return four(s, at);
+    }
+    if w == 2 {
+        return two(s, at);
+    }
+    if w == 8 {
+        return eight(s, at);
+    }
     value(&s[at..at + w])
 }
 

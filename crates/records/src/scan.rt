@@ -16,15 +16,16 @@ pub fn step_at(s: &[u8], at: usize, w: usize) -> Step
     if 8 < w {
         return Step::End;
     }
-    if s.len() < at {
+    let size = 2 + w;
+    if s.len() < size {
         return Step::End;
     }
-    if s.len() - at < 2 + w {
+    if s.len() - size < at {
         return Step::End;
     }
     let mark = number::field(s, at, 2);
     let body = number::field(s, at + 2, w);
-    Step::Record(mark, body, at + (2 + w))
+    Step::Record(mark, body, at + size)
 }
 
 // The next record, whose body has `w` bytes.

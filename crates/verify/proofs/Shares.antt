@@ -1,16 +1,16 @@
 -- Row 14, site by site: what the arrays have of a site, and when its share breaks a rule. Assumes nothing.
 use mathlib.Core.Path.{_≡_, refl, sym, ap, ap₂, _∙_, subst}
 use mathlib.Core.Logic.{⊎-elim}
-use mathlib.Core.Bool.{Bool, true, false, not, _&&_, _||_, or-false}
+use mathlib.Core.Bool.{Bool, true, false, cond, not, _&&_, _||_, or-true}
 use mathlib.Core.List.{List}
 use Prim.Native.Nat.{ℕ, _-_, _*_, _≤_, _<_, _^_, max}
 use native.Mathlib.Nat.{le-refl, le-of-suc-le, mul-le-mul}
 use native.Mathlib.Omega.{arith}
-use borrow.Author.Tests.{lt-ltb, le-ltb, eq-eqb, ne-eqb}
-use lib.Dec.{T, not-T, eqb, ltb, eqb→eq, ltb→lt, nltb→le}
+use borrow.Author.Tests.{lt-ltb, eq-eqb, ne-eqb}
+use lib.Dec.{T, not-T, eqb, ltb, eqb→eq, ltb→lt, lt→ltb, nltb→le}
 use lib.ListN.{length, getD}
 use lib.Seq.{getD-take, length-take-le}
-use Rattle.sets.proofs.Test.{T?, T-ext, eq→eqb, fails, passes}
+use Rattle.sets.proofs.Test.{T?, T-ext, is-true, is-false, eq→eqb, fails, passes}
 use Rattle.sets.proofs.Sum.{any-from}
 use Rattle.density.specs.declared.Site.{Site}
 use Rattle.density.specs.Network.{Network, Valid, noSite, network}
@@ -32,7 +32,7 @@ product-lt w q l m = omega (arith, mul-le-mul (le-of-suc-le l) m)
 pub product-fits : (w q : ℕ) → w ≤ 512 * 2 ^ 32 → q ≤ 576 → w * q < 2 ^ 64
 product-fits w q l m = omega (arith, mul-le-mul l m)
 
-size-few : (list : ListArray) (gs : List ℕ) (k : ℕ) → groupSize (net list) gs k ≤ 576
+pub size-few : (list : ListArray) (gs : List ℕ) (k : ℕ) → groupSize (net list) gs k ≤ 576
 unfolding groupSize network
 size-few list gs k = omega (arith, size-≤ (net list) (group gs k) 1 (λ d. le-refl 1))
 
@@ -85,7 +85,7 @@ module _ (list : ListArray) (plan : PlanArray) (r : Ready list plan) where
       second-lt : secondOf < plan .count
       second-lt = omega (arith, second-is, place-lt (siteOf .second) (subst (λ (s : Site). T (net list .listed (s .second))) is (ok .second-listed i here)))
 
-      later-lt : max firstOf secondOf < plan .count
+      pub later-lt : max firstOf secondOf < plan .count
       later-lt = omega (arith, first-lt, second-lt)
 
       size-at : sizeOf ≡ groupSize (net list) (groupsIn list plan) (max firstOf secondOf)
@@ -128,9 +128,76 @@ module _ (list : ListArray) (plan : PlanArray) (r : Ready list plan) where
 
 -- ---- when a share breaks a rule
 
-own-case : (e z y : Bool) → (true && e || false && z || false && y) ≡ e
-own-case true z y = refl
-own-case false z y = refl
+-- the rules in the order in which the code tries them
+regroup : (f b w p : Bool) → (f && w || p || b && w) ≡ (p || (b || f) && w)
+regroup true true true p = sym (or-true p)
+regroup true true false p = refl
+regroup true false true p = sym (or-true p)
+regroup true false false p = refl
+regroup false true w p = refl
+regroup false false w p = refl
+
+-- a share is between the least and the most that it may be: the same as the tests one by one
+tests : (below above some p w : Bool) → T (not above || some) → (cond w below false || cond p some above) ≡ (above || (p && some || w && (below || above)))
+tests true true true true true h = refl
+tests true true true true false h = refl
+tests true true true false true h = refl
+tests true true true false false h = refl
+tests true false true true true h = refl
+tests true false true true false h = refl
+tests true false true false true h = refl
+tests true false true false false h = refl
+tests true false false true true h = refl
+tests true false false true false h = refl
+tests true false false false true h = refl
+tests true false false false false h = refl
+tests false true true true true h = refl
+tests false true true true false h = refl
+tests false true true false true h = refl
+tests false true true false false h = refl
+tests false false true true true h = refl
+tests false false true true false h = refl
+tests false false true false true h = refl
+tests false false true false false h = refl
+tests false false false true true h = refl
+tests false false false true false h = refl
+tests false false false false true h = refl
+tests false false false false false h = refl
+
+between : (all x : ℕ) (p w : Bool) → (ltb x (cond w all 0) || ltb (cond p 0 all) x) ≡ (ltb all x || (p && not (eqb x 0) || w && not (eqb x all)))
+between all x p w = rw (least w, most p, some, other) (tests (ltb x all) (ltb all x) (ltb 0 x) p w implied)
+  where
+    least : (w : Bool) → ltb x (cond w all 0) ≡ cond w (ltb x all) false
+    least true = refl
+    least false = is-false (ltb x 0) (λ t. let m = ltb→lt x 0 t in absurd (omega arith))
+
+    most : (p : Bool) → ltb (cond p 0 all) x ≡ cond p (ltb 0 x) (ltb all x)
+    most true = refl
+    most false = refl
+
+    some : not (eqb x 0) ≡ ltb 0 x
+    some =
+        ⊎-elim (λ t. let m = ltb→lt 0 x t in rw (is-true (ltb 0 x) t, ne-eqb x 0 (λ e. omega arith)))
+        (λ n. let m = nltb→le 0 x (not-T (ltb 0 x) n) in rw (is-false (ltb 0 x) n, eq-eqb x 0 (omega arith)))
+        (T? (ltb 0 x))
+
+    other : not (eqb x all) ≡ (ltb x all || ltb all x)
+    other =
+        ⊎-elim (λ t. let m = ltb→lt x all t in rw (is-true (ltb x all) t, ne-eqb x all (λ e. omega arith)))
+        (λ n.
+        ⊎-elim (λ t. let m = ltb→lt all x t in rw (is-true (ltb all x) t, ne-eqb x all (λ e. omega arith), is-false (ltb x all) n))
+        (λ o.
+        let m = nltb→le x all (not-T (ltb x all) n) in
+        let k = nltb→le all x (not-T (ltb all x) o) in
+        rw (is-false (ltb x all) n, is-false (ltb all x) o, eq-eqb x all (omega arith)))
+        (T? (ltb all x)))
+        (T? (ltb x all))
+
+    implied : T (not (ltb all x) || ltb 0 x)
+    implied =
+        ⊎-elim (λ t. let m = ltb→lt all x t in rw (is-true (ltb all x) t) (lt→ltb 0 x (omega arith)))
+        (λ n. rw (is-false (ltb all x) n) tt)
+        (T? (ltb all x))
 
 rest-zero : (all x : ℕ) → x ≤ all → eqb (all - x) 0 ≡ eqb x all
 rest-zero all x l =
@@ -153,22 +220,22 @@ module _ (N : Network) (gs ss : List ℕ) (i : ℕ) (s : Site) (a b all x : ℕ)
   pub broken-above : all < x → true ≡ shareBroken N gs ss i
   broken-above l = sym (broken-is ∙ rw (lt-ltb all x l))
 
-  pub broken-own : x ≤ all → s .first ≡ s .second → not (eqb x all) ≡ shareBroken N gs ss i
-  broken-own l f =
-      let same : a ≡ b = sym (e .first-place) ∙ ap (place gs) f ∙ e .second-place in
-      sym (broken-is ∙ rw (le-ltb all x l, eq-eqb _ _ f, le-ltb a (max a b) (omega arith), le-ltb b (max a b) (omega arith)) (own-case (not (eqb x all)) (not (eqb x 0)) (not (eqb (all - x) 0))))
+  broken-tests : (ltb all x || (ltb a b && not (eqb x 0) || (ltb b a || eqb (s .first) (s .second)) && not (eqb x all))) ≡ shareBroken N gs ss i
+  broken-tests =
+      ⊎-elim (λ t. rw (is-true (ltb all x) t) (broken-above (ltb→lt all x t)))
+      (λ n.
+      let l = nltb→le all x (not-T (ltb all x) n) in
+      sym (broken-is ∙ rw (is-false (ltb all x) n, first-earlier, second-earlier, rest-zero all x l) (regroup (eqb (s .first) (s .second)) (ltb b a) (not (eqb x all)) (ltb a b && not (eqb x 0)))))
+      (T? (ltb all x))
+    where
+      first-earlier : ltb a (max a b) ≡ ltb a b
+      first-earlier = T-ext _ _ (λ t. let m = ltb→lt a (max a b) t in lt→ltb a b (omega arith)) (λ t. let m = ltb→lt a b t in lt→ltb a (max a b) (omega arith))
 
-  pub broken-first : x ≤ all → (s .first ≡ s .second → ⊥) → a < b → not (eqb x 0) ≡ shareBroken N gs ss i
-  broken-first l f m =
-      sym (broken-is ∙ rw (le-ltb all x l, ne-eqb _ _ f, lt-ltb a (max a b) (omega arith), le-ltb b (max a b) (omega arith)) (or-false (not (eqb x 0))))
+      second-earlier : ltb b (max a b) ≡ ltb b a
+      second-earlier = T-ext _ _ (λ t. let m = ltb→lt b (max a b) t in lt→ltb b a (omega arith)) (λ t. let m = ltb→lt b a t in lt→ltb b (max a b) (omega arith))
 
-  pub broken-second : x ≤ all → (s .first ≡ s .second → ⊥) → b < a → not (eqb x all) ≡ shareBroken N gs ss i
-  broken-second l f m =
-      sym (broken-is ∙ rw (le-ltb all x l, ne-eqb _ _ f, le-ltb a (max a b) (omega arith), lt-ltb b (max a b) (omega arith), rest-zero all x l))
-
-  pub broken-none : x ≤ all → (s .first ≡ s .second → ⊥) → a ≡ b → false ≡ shareBroken N gs ss i
-  broken-none l f m =
-      sym (broken-is ∙ rw (le-ltb all x l, ne-eqb _ _ f, le-ltb a (max a b) (omega arith), le-ltb b (max a b) (omega arith)))
+  pub broken-at : (ltb x (cond (ltb b a || eqb (s .first) (s .second)) all 0) || ltb (cond (ltb a b) 0 all) x) ≡ shareBroken N gs ss i
+  broken-at = between all x (ltb a b) (ltb b a || eqb (s .first) (s .second)) ∙ broken-tests
 
   -- a share that breaks none is at most w × q
   kept : sharesBroken N gs ss ≡ false → i < N .count → x ≤ all
@@ -179,8 +246,28 @@ module _ (N : Network) (gs ss : List ℕ) (i : ℕ) (s : Site) (a b all x : ℕ)
       (λ m. nltb→le all x (not-T (ltb all x) m))
       (T? (ltb all x))
 
-pub share-≤ : (list : ListArray) (plan : PlanArray) (r : Ready list plan) (places sizes : List ℕ) (t : Tables list plan places sizes) (i : ℕ) (l : i < list .count)
-    → sharesBroken (net list) (groupsIn list plan) (sharesIn list plan) ≡ false
-    → getD (plan .shares) i 0 ≤ siteOf list plan r places sizes t i l .litres * sizeOf list plan r places sizes t i l
-share-≤ list plan r places sizes t i l h =
-    kept _ _ _ i _ _ _ _ _ (entry list plan r places sizes t i l) h (omega (arith, sites-count list plan r))
+-- ---- a site whose w × q is known
+
+module _ (list : ListArray) (plan : PlanArray) (r : Ready list plan) (i : ℕ) (l : i < list .count) (all : ℕ) (e : whole (net list) (groupsIn list plan) i ≡ all) where
+  abbrev siteIn : Site
+  siteIn = getD (list .sites) i noSite
+
+  pub entry-with : Entry (net list) (groupsIn list plan) (sharesIn list plan) i siteIn (place (groupsIn list plan) (siteIn .first)) (place (groupsIn list plan) (siteIn .second)) all (getD (plan .shares) i 0)
+  unfolding firstShare
+  entry-with =
+      record {
+        site = site-is list (r .places .0) (r .counted .sites) i l;
+        first-place = refl;
+        second-place = refl;
+        whole = e;
+        share = getD-take (list .count) (plan .shares) i 0 l;
+      }
+
+  pub share-≤ : sharesBroken (net list) (groupsIn list plan) (sharesIn list plan) ≡ false → getD (plan .shares) i 0 ≤ all
+  share-≤ h = kept _ _ _ i _ _ _ _ _ entry-with h (omega (arith, sites-count list plan r))
+
+  pub whole-lt : siteIn .litres < 2 ^ 32 → all < 2 ^ 42
+  unfolding whole
+  whole-lt w =
+      subst (λ n. n < 2 ^ 42) e
+      (product-lt _ _ (subst (λ (s : Site). s .litres < 2 ^ 32) (sym (site-is list (r .places .0) (r .counted .sites) i l)) w) (size-few list (groupsIn list plan) _))

@@ -21,7 +21,7 @@ use Rattle.density.specs.Rows.{scaledLoad, loadsUneven, groupsRise}
 use Rattle.records.specs.declared.ListArray.{ListArray}
 use Rattle.records.specs.declared.PlanArray.{PlanArray}
 use Rattle.records.specs.Values.{listing}
-use Rattle.verify.specs.Tables.{net, groupsIn, sharesIn, Holds, Ready, Tables, Placed, Litres, Entry}
+use Rattle.verify.specs.Tables.{net, groupsIn, sharesIn, Holds, Ready, Placed, Litres, Entry}
 use Rattle.verify.proofs.Sites.{count-is, site-is}
 use Rattle.verify.proofs.Arrays.{added}
 use Rattle.verify.proofs.Shares.{sites-count, place-lt}
@@ -109,18 +109,18 @@ loads-end list plan r a i e h k l = h .is k l ∙ ap (sum _) (e ∙ sym (sites-c
 abbrev pub unevenAt : Listing → ℕ → List ℕ → List ℕ → List ℕ → ℕ → Bool
 unevenAt l all loads places litres d = has all d && not (eqb (getD loads d 0) (network l .crews d * getD litres (getD places d 0) 0))
 
-pub uneven-is : (list : ListArray) (plan : PlanArray) (r : Ready list plan) (places sizes : List ℕ) → Tables list plan places sizes → (litres : List ℕ) → Litres list places litres
+pub uneven-is : (list : ListArray) (plan : PlanArray) (r : Ready list plan) (places : List ℕ) → Holds places (place (groupsIn list plan)) 64 → (litres : List ℕ) → Litres list places litres
     → (all : ℕ) → all ≡ setOf (net list .listed) 64 → (loads : List ℕ) → Holds loads (scaledLoad (net list) (groupsIn list plan) (sharesIn list plan)) 64
     → any (unevenAt (listing list) all loads places litres) 64 ≡ loadsUneven (net list) (groupsIn list plan) (sharesIn list plan)
 unfolding loadsUneven target
-uneven-is list plan r places sizes t litres w all e loads h =
+uneven-is list plan r places t litres w all e loads h =
     any-cong _ _ 64
     (λ d l.
     let listed : has all d ≡ net list .listed d = ap (λ (n : ℕ). has n d) e ∙ has-setOf 64 (net list .listed) d l in
     ⊎-elim
     (λ u.
     let here : getD litres (getD places d 0) 0 ≡ groupLitres (net list) (groupsIn list plan) (place (groupsIn list plan) d) =
-    ap (λ k. getD litres k 0) (t .place d l) ∙ w .is (groupsIn list plan) (t .place) (place (groupsIn list plan) d) (omega (arith, place-lt list plan r d u, r .counted .groups)) in
+    ap (λ k. getD litres k 0) (t d l) ∙ w .is (groupsIn list plan) t (place (groupsIn list plan) d) (omega (arith, place-lt list plan r d u, r .counted .groups)) in
     rw (listed, h d l, here))
     (λ n. rw (listed, is-false (net list .listed d) n))
     (T? (net list .listed d)))
@@ -142,11 +142,11 @@ rises-is litres sizes n N gs e w q =
 
 -- ---- a step of the loop of row 15
 
-pub listed-place : (list : ListArray) (plan : PlanArray) (r : Ready list plan) (places sizes : List ℕ) → Tables list plan places sizes
+pub listed-place : (list : ListArray) (plan : PlanArray) (r : Ready list plan) (places : List ℕ) → Holds places (place (groupsIn list plan)) 64
     → (all d : ℕ) → all ≡ setOf (net list .listed) 64 → d < 64 → has all d ≡ true → getD places d 0 < 64
-listed-place list plan r places sizes t all d e l h =
+listed-place list plan r places t all d e l h =
     let u : T (net list .listed d) = passes _ (sym (ap (λ (n : ℕ). has n d) e ∙ has-setOf 64 (net list .listed) d l) ∙ h) in
-    omega (arith, t .place d l, place-lt list plan r d u, r .counted .groups)
+    omega (arith, t d l, place-lt list plan r d u, r .counted .groups)
 
 module _ (l : Listing) (all : ℕ) (loads places litres : List ℕ) (d : ℕ) where
   pub uneven-here : has all d ≡ true → (x : ℕ) → x ≡ network l .crews d * getD litres (getD places d 0) 0 → (getD loads d 0 ≡ x → ⊥) → unevenAt l all loads places litres d ≡ true

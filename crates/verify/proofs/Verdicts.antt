@@ -1,5 +1,5 @@
 -- From the rows to the verdict, and what rows 14 to 16 are tried on. Assumes nothing.
-use mathlib.Core.Path.{_≡_, refl, sym}
+use mathlib.Core.Path.{_≡_, refl, sym, _∙_}
 use mathlib.Core.Bool.{Bool, true, false, cond}
 use mathlib.Core.List.{List}
 use mathlib.Core.Option.{Option, none, some}
@@ -7,17 +7,21 @@ use Prim.Native.Nat.{ℕ, _<_, _^_}
 use native.Mathlib.Omega.{arith}
 use lib.ListN.{length, getD, take}
 use lib.Seq.{getD-take, length-take-le}
+use Rattle.sets.specs.Set.{setOf}
 use Rattle.density.specs.Network.{Listing, Network, network}
 use Rattle.density.specs.Plan.{place, groupSize}
 use Rattle.density.specs.Rows.{firstRow, planRows, groupsMeet, groupsUnlisted, sharesBroken, loadsUneven, groupsRise}
 use Rattle.records.specs.declared.ListArray.{ListArray}
 use Rattle.records.specs.declared.PlanArray.{PlanArray}
 use Rattle.records.specs.Values.{listing}
+use Rattle.verify.specs.declared.Verdict.{Verdict}
 use Rattle.verify.specs.declared.Verdict.the-variants.{Passes, Refused}
+use Rattle.verify.specs.declared.Tally.{Tally}
+use Rattle.verify.specs.declared.Form.{Form}
 use Rattle.verify.specs.Verdict.{verdict}
-use Rattle.verify.specs.Tables.{net, groupsIn, Holds, Counted, Ready, Tables, Litres, Small}
+use Rattle.verify.specs.Tables.{net, groupsIn, sharesIn, Holds, Counted, Ready, Tables, Litres, Tallied, formRows, Formed, Small}
 use Rattle.density.proofs.Lists.{valid}
-use Rattle.verify.proofs.Groups.{listed-is}
+use Rattle.verify.proofs.Groups.{unlisted-is, listed-is}
 use Rattle.verify.proofs.Shares.{sizes-few}
 
 never : (n : ℕ) → Refused n ≡ Passes → ⊥
@@ -36,25 +40,19 @@ refused false true c later n e = e
 refused false false true later n e = e
 refused false false false later n e = absurd (never n (sym e))
 
+-- the pass over the sites says what rows 13 and 14 ask
+forms : (a b c broken : Bool) → (b ≡ false → broken ≡ c) → verdict (cond a (some 12) (cond b (some 13) (cond broken (some 14) none)))
+    ≡ verdict (cond a (some 12) (cond b (some 13) (cond c (some 14) none)))
+forms true b c broken h = refl
+forms false true c broken h = refl
+forms false false c broken h = rw (h refl)
+
+pub form-rows : (N : Network) (gs ss : List ℕ) (listed : ℕ) (broken : Bool) → listed ≡ setOf (N .listed) 64 → (groupsUnlisted N gs ≡ false → broken ≡ sharesBroken N gs ss)
+    → verdict (firstRow (formRows gs listed broken)) ≡ verdict (firstRow (take 3 (planRows N gs ss)))
+unfolding firstRow planRows
+form-rows N gs ss listed broken e h = rw (e, unlisted-is N gs) (forms (groupsMeet gs) (groupsUnlisted N gs) (sharesBroken N gs ss) broken h)
+
 module _ (N : Network) (gs ss : List ℕ) where
-  pub row-12 : groupsMeet gs ≡ true → Refused 12 ≡ verdict (firstRow (take 3 (planRows N gs ss)))
-  unfolding firstRow planRows
-  row-12 e = rw e
-
-  module _ (meet : groupsMeet gs ≡ false) where
-    pub row-13 : groupsUnlisted N gs ≡ true → Refused 13 ≡ verdict (firstRow (take 3 (planRows N gs ss)))
-    unfolding firstRow planRows
-    row-13 e = rw (meet, e)
-
-    module _ (listed : groupsUnlisted N gs ≡ false) where
-      pub row-14 : sharesBroken N gs ss ≡ true → Refused 14 ≡ verdict (firstRow (take 3 (planRows N gs ss)))
-      unfolding firstRow planRows
-      row-14 e = rw (meet, listed, e)
-
-      pub form-passes : sharesBroken N gs ss ≡ false → Passes ≡ verdict (firstRow (take 3 (planRows N gs ss)))
-      unfolding firstRow planRows
-      form-passes e = rw (meet, listed, e)
-
   -- a verdict on the form says which rows do not apply, or is the verdict
   pub form→ : verdict (firstRow (take 3 (planRows N gs ss))) ≡ Passes → (groupsMeet gs ≡ false) × (groupsUnlisted N gs ≡ false) × (sharesBroken N gs ss ≡ false)
   unfolding firstRow planRows
@@ -92,19 +90,24 @@ ready list plan n wide deep low e =
     long : length (groupsIn list plan) ≡ plan .count
     long = length-take-le (plan .count) (plan .groups) (omega (arith, n .groups, deep))
 
+pub tables-of : (list : ListArray) (plan : PlanArray) → Counted list plan → length (plan .groups) ≡ 64 → (places sizes : List ℕ) → length places ≡ 64 → length sizes ≡ 64
+    → Holds places (place (groupsIn list plan)) 64
+    → ((l : Listing) → Holds sizes (groupSize (network l) (groupsIn list plan)) (length (groupsIn list plan))) → Tables list plan places sizes
+tables-of list plan n deep places sizes p q h k =
+    record {
+      length-places = p;
+      length-sizes = q;
+      place = h;
+      size = λ i l. k (listing list) i (omega (arith, long));
+    }
+  where
+    long : length (groupsIn list plan) ≡ plan .count
+    long = length-take-le (plan .count) (plan .groups) (omega (arith, n .groups, deep))
+
 module _ (list : ListArray) (plan : PlanArray) (r : Ready list plan) where
   pub tables : (places sizes : List ℕ) → length places ≡ 64 → length sizes ≡ 64 → Holds places (place (groupsIn list plan)) 64
       → ((l : Listing) → Holds sizes (groupSize (network l) (groupsIn list plan)) (length (groupsIn list plan))) → Tables list plan places sizes
-  tables places sizes p q h k =
-      record {
-        length-places = p;
-        length-sizes = q;
-        place = h;
-        size = λ i l. k (listing list) i (omega (arith, long));
-      }
-    where
-      long : length (groupsIn list plan) ≡ plan .count
-      long = length-take-le (plan .count) (plan .groups) (omega (arith, r .counted .groups, r .places .1))
+  tables = tables-of list plan (r .counted) (r .places .1)
 
   pub small : (places sizes litres : List ℕ) → Tables list plan places sizes → Litres list places litres → length litres ≡ 64 → Small litres sizes (plan .count)
   small places sizes litres t w e =
@@ -114,3 +117,29 @@ module _ (list : ListArray) (plan : PlanArray) (r : Ready list plan) where
         litre = λ k l. w .low k (omega (arith, r .counted .groups));
         size = sizes-few list plan r places sizes t;
       }
+
+-- ---- what rows 12 to 14 leave to the later ones
+
+pub formed : (list : ListArray) (plan : PlanArray) (n : Counted list plan) → length (list .sites) ≡ 512 → length (plan .groups) ≡ 64 → ((k : ℕ) → getD (plan .groups) k 0 < 2 ^ 64)
+    → (places sizes : List ℕ) → Tables list plan places sizes → (t : Tally) (ws : List ℕ) → length (t .litres) ≡ 64
+    → (t .listed ≡ setOf (net list .listed) 64) × (Ready list plan → Tallied list plan places t ws)
+    → (v : Verdict) → v ≡ verdict (firstRow (formRows (groupsIn list plan) (t .listed) (t .broken)))
+    → Formed list plan (record { verdict = v; listed = t .listed; places = places; sizes = sizes; litres = t .litres }) ws
+formed list plan n wide deep low places sizes tabled t ws long found v e =
+    record {
+      verdict-is = is;
+      passed = λ p.
+          let f = form→ (net list) (groupsIn list plan) (sharesIn list plan) (sym is ∙ p) in
+          let y = ready list plan n wide deep low (f .1) in
+          record {
+            ready = y;
+            shares = f .2;
+            listed = found .0;
+            tables = tabled;
+            litres = (long, found .1 y .litres);
+            wholes = found .1 y .wholes;
+          };
+    }
+  where
+    is : v ≡ verdict (firstRow (take 3 (planRows (net list) (groupsIn list plan) (sharesIn list plan))))
+    is = e ∙ form-rows (net list) (groupsIn list plan) (sharesIn list plan) (t .listed) (t .broken) (found .0) (λ u. found .1 (ready list plan n wide deep low u) .broken)

@@ -1,15 +1,22 @@
 -- What the check keeps of a list and a plan while it tries rows 14 to 16.
 use mathlib.Core.Path.{_≡_}
-use mathlib.Core.List.{List}
+use mathlib.Core.Bool.{Bool, false, not}
+use mathlib.Core.List.{List, [], _∷_}
 use Prim.Native.Nat.{ℕ, _*_, _≤_, _<_, _^_}
-use lib.Dec.{T}
-use lib.ListN.{length, getD}
+use lib.Dec.{T, eqb}
+use lib.ListN.{length, getD, take}
+use Rattle.sets.specs.Set.{setOf}
 use Rattle.density.specs.declared.Site.{Site}
 use Rattle.density.specs.Network.{Network, noSite, network, depotsInRange}
 use Rattle.density.specs.Plan.{union, place, groupSize, groupLitres, whole, firstShare}
+use Rattle.density.specs.Rows.{Row, row, firstRow, groupsMeet, sharesBroken, planRows}
 use Rattle.records.specs.declared.ListArray.{ListArray}
 use Rattle.records.specs.declared.PlanArray.{PlanArray}
 use Rattle.records.specs.Values.{listing, planIn}
+use Rattle.verify.specs.declared.Tally.{Tally}
+use Rattle.verify.specs.declared.Form.{Form}
+use Rattle.verify.specs.declared.Verdict.the-variants.{Passes}
+use Rattle.verify.specs.Verdict.{verdict}
 
 -- the network of a list, and the groups and shares of a plan for it
 abbrev pub net : ListArray → Network
@@ -57,6 +64,34 @@ pub record Placed (list : ListArray) (places : List ℕ) : Type 0 where
 pub record Litres (list : ListArray) (places litres : List ℕ) : Type 0 where
   pub is : (gs : List ℕ) → Holds places (place gs) 64 → Holds litres (groupLitres (net list) gs) 64
   pub low : (k : ℕ) → k < 64 → getD litres k 0 ≤ 512 * 2 ^ 32
+
+-- w × q of each site
+abbrev pub Wholes : ListArray → PlanArray → List ℕ → Type 0
+Wholes list plan wholes = (length wholes ≡ 512) × Holds wholes (whole (net list) (groupsIn list plan)) (list .count)
+
+-- what the pass over the sites finds, if the groups are the listed depots
+pub record Tallied (list : ListArray) (plan : PlanArray) (places : List ℕ) (r : Tally) (ws : List ℕ) : Type 0 where
+  pub broken : r .broken ≡ sharesBroken (net list) (groupsIn list plan) (sharesIn list plan)
+  pub litres : Litres list places (r .litres)
+  pub wholes : Wholes list plan ws
+
+-- rows 12 to 14, of groups, the listed depots, and whether a share breaks a rule
+abbrev pub formRows : List ℕ → ℕ → Bool → List Row
+formRows gs listed broken = row 12 (groupsMeet gs) ∷ row 13 (not (eqb (setOf (union gs) 64) listed)) ∷ row 14 broken ∷ []
+
+-- what rows 15 and 16 are tried on
+pub record Kept (list : ListArray) (plan : PlanArray) (r : Form) (ws : List ℕ) : Type 0 where
+  pub ready : Ready list plan
+  pub shares : sharesBroken (net list) (groupsIn list plan) (sharesIn list plan) ≡ false
+  pub listed : r .listed ≡ setOf (net list .listed) 64
+  pub tables : Tables list plan (r .places) (r .sizes)
+  pub litres : (length (r .litres) ≡ 64) × Litres list (r .places) (r .litres)
+  pub wholes : Wholes list plan ws
+
+-- the verdict of rows 12 to 14, and what it leaves where it passes
+pub record Formed (list : ListArray) (plan : PlanArray) (r : Form) (ws : List ℕ) : Type 0 where
+  pub verdict-is : r .verdict ≡ verdict (firstRow (take 3 (planRows (net list) (groupsIn list plan) (sharesIn list plan))))
+  pub passed : r .verdict ≡ Passes → Kept list plan r ws
 
 -- site i: its depots' places, w × q and s
 pub record Entry (N : Network) (gs ss : List ℕ) (i : ℕ) (s : Site) (first second all part : ℕ) : Type 0 where

@@ -2,8 +2,9 @@
 use density::Site;
 use records::ListArray;
 use records::PlanArray;
+use records::scan;
 ghost use mathlib.Core.Path.{_≡_};
-ghost use mathlib.Core.Bool.{false, not, _||_};
+ghost use mathlib.Core.Bool.{false, cond, not, _||_};
 ghost use mathlib.Core.List.{List};
 ghost use Prim.Native.Nat.{ℕ, _+_, _*_, _<_, _≤_, _^_, max};
 ghost use lib.Dec.{T};
@@ -11,15 +12,31 @@ ghost use lib.ListN.{length, getD, take, replicate};
 ghost use Rattle.sets.specs.Set.{_∪_, _∩_, has, setOf, isEmpty};
 ghost use Rattle.density.specs.Network.{Listing, Network, names, network, depotsInRange, size};
 ghost use Rattle.density.specs.Plan.{union, place, groupSize, groupLitres};
-ghost use Rattle.density.specs.Rows.{firstRow, groupsMeet, groupsUnlisted, shareBroken, sharesBroken, scaledLoad, loadsUneven, groupsRise, planRows};
+ghost use Rattle.density.specs.Rows.{firstRow, groupsMeet, shareBroken, sharesBroken, scaledLoad, loadsUneven, groupsRise, planRows};
 ghost use Rattle.records.specs.Values.{listing};
 ghost use Rattle.verify.specs.Verdict.{verdict};
-ghost use Rattle.verify.specs.Tables.{net, groupsIn, sharesIn, Holds, Counted, Ready, Tables, Placed, Litres, Entry, Small};
+ghost use Rattle.verify.specs.Tables.{net, groupsIn, sharesIn, Holds, Counted, Ready, Tables, Placed, Litres, Wholes, Tallied, formRows, Formed, Entry, Small};
 
 // What the check answers: a refusal is the row's number.
 pub enum Verdict {
     Passes,
     Refused(u8),
+}
+
+// What one pass over the sites finds: the listed depots, whether a share breaks a rule, and W of each group.
+pub struct Tally {
+    pub listed: u64,
+    pub broken: bool,
+    pub litres: [u64; 64],
+}
+
+// What rows 12 to 14 leave to the later rows: the listed depots, the place of each depot, and q and W of each group.
+pub struct Form {
+    pub verdict: Verdict,
+    pub listed: u64,
+    pub places: [u8; 64],
+    pub sizes: [u64; 64],
+    pub litres: [u64; 64],
 }
 
 // The set with the depots of a site.
@@ -85,39 +102,30 @@ fn union(groups: &[u64]) -> u64
     seen
 }
 
-// Row 13.
-fn groups_unlisted(list: ListArray, groups: &[u64]) -> bool
-    requires { ⌜ (list .count ≤ 512) × T (depotsInRange (listing list)) ⌝ }
-    ensures { λ r. ⌜ r ≡ groupsUnlisted (net list) (now (groups .entry)) ⌝ }
+// The places with k for each depot of the set.
+fn mark(places: &mut [u8], set: u64, k: u8)
+    requires { ⌜ length (now places) ≡ 64 ⌝ }
+    ensures { λ _. ⌜ Holds (now (places .exit)) (λ d. cond (has set d) k (getD (now (places .entry)) d 0)) 64 ⌝ }
 {
-    union(groups) != listed(list)
-}
-
-// The place of the first group that has the depot, or the number of groups.
-fn place(groups: &[u64], depot: u8) -> u8
-    requires { ⌜ length (now groups) ≤ 64 ⌝ }
-    ensures { λ r. ⌜ r ≡ place (now (groups .entry)) depot ⌝ }
-{
-    let mut k: u8 = 0;
-    while (k as usize) < groups.len() {
-        if sets::contains(groups[k as usize], depot) {
-            return k;
-        }
-        k += 1;
+    let mut left = set;
+    while !sets::is_empty(left) {
+        let d = sets::lowest(left);
+        places[d as usize] = k;
+        left = sets::without(left, sets::single(d));
     }
-    k
 }
 
-// The place of each depot.
+// The place of each depot: that of the first group that has it, or the number of groups. From the last group to the first, so that the first has the last word.
 pub fn places(groups: &[u64]) -> [u8; 64]
     requires { ⌜ length (now groups) ≤ 64 ⌝ }
     ensures { λ r. ⌜ Holds r (place (now (groups .entry))) 64 ⌝ }
 {
-    let mut r = [0u8; 64];
-    let mut d: usize = 0;
-    while d < 64 {
-        r[d] = place(groups, d as u8);
-        d += 1;
+    let n = groups.len();
+    let mut r = [n as u8; 64];
+    let mut k = n;
+    while 0 < k {
+        k -= 1;
+        mark(&mut r, groups[k], k as u8);
     }
     r
 }
@@ -170,42 +178,59 @@ pub fn whole(s: Site, places: &[u8], sizes: &[u64]) -> u64
     litres_of(s) * sizes[k as usize]
 }
 
-// Does a site's share break a rule? Its depots have the places a and b, all is w × q.
+// x where the test holds, otherwise y.
+fn pick(test: bool, x: u64, y: u64) -> u64
+    ensures { λ r. ⌜ r ≡ cond test x y ⌝ }
+{
+    if test { x } else { y }
+}
+
+// Does a site's share break a rule? Its depots have the places a and b, all is w × q: the share is all of it where the second depot is earlier or the first one too, and nothing where the first is earlier.
 fn is_broken(s: Site, a: u8, b: u8, all: u64, share: u64) -> bool
     ensures { λ r. ⌜ ((N : Network) (gs ss : List ℕ) (i : ℕ) → Entry N gs ss i s a b all share → r ≡ shareBroken N gs ss i) ⌝ }
 {
-    if all < share {
-        return true;
-    }
-    if s.first == s.second {
-        return share != all;
-    }
-    if a < b {
-        return share != 0;
-    }
-    if b < a {
-        return share != all;
-    }
-    false
+    let is_all = scan::either(b < a, s.first == s.second);
+    let least = pick(is_all, all, 0);
+    let most = pick(a < b, 0, all);
+    scan::either(share < least, most < share)
 }
 
-// Row 14.
-fn shares_broken(list: ListArray, plan: PlanArray, places: &[u8], sizes: &[u64]) -> bool
-    requires { ⌜ Ready list plan × Tables list plan (now places) (now sizes) ⌝ }
-    ensures { λ r. ⌜ r ≡ sharesBroken (net list) (groupsIn list plan) (sharesIn list plan) ⌝ }
+// One pass over the sites: the listed depots, whether a share breaks a rule, and W of each group; w × q of each site goes to `wholes`. Where the groups are not the listed depots, a site may have no group: it is passed over, and row 13 refuses the plan.
+fn add_up(
+    list: ListArray,
+    plan: PlanArray,
+    places: &[u8],
+    sizes: &[u64],
+    wholes: &mut [u64],
+) -> Tally
+    requires { ⌜ Counted list plan × Tables list plan (now places) (now sizes) × (length (now wholes) ≡ 512) ⌝ }
+    ensures { λ r. ⌜ (r .listed ≡ setOf (net list .listed) 64) × (Ready list plan → Tallied list plan (now (places .entry)) r (now (wholes .exit))) ⌝ }
 {
+    let n = plan.count;
+    let mut listed: u64 = 0;
+    let mut broken = false;
+    let mut litres = [0u64; 64];
     let mut i: usize = 0;
     while i < list.count {
         let s = list.sites[i];
+        listed = name(listed, s);
         let a = places[s.first as usize];
         let b = places[s.second as usize];
-        let all = whole(s, places, sizes);
-        if is_broken(s, a, b, all, plan.shares[i]) {
-            return true;
+        let k = later(a, b) as usize;
+        if k < n {
+            let w = litres_of(s);
+            let all = w * sizes[k];
+            broken = scan::either(broken, is_broken(s, a, b, all, plan.shares[i]));
+            litres[k] = litres[k] + w;
+            wholes[i] = all;
         }
         i += 1;
     }
-    false
+    Tally {
+        listed,
+        broken,
+        litres,
+    }
 }
 
 // W of each group, in one pass over the sites.
@@ -226,15 +251,9 @@ pub fn litres(list: ListArray, places: &[u8]) -> [u64; 64]
 }
 
 // For each of the 64 depots, its scaled load: the array, all zero, is passed and returned by value, and one place is changed for each end of a site.
-fn loads(
-    zero: [u64; 64],
-    list: ListArray,
-    plan: PlanArray,
-    places: &[u8],
-    sizes: &[u64],
-) -> [u64; 64]
+fn loads(zero: [u64; 64], list: ListArray, plan: PlanArray, wholes: &[u64]) -> [u64; 64]
     requires { ⌜ zero ≡ replicate 64 0 ⌝ }
-    requires { ⌜ Ready list plan × Tables list plan (now places) (now sizes) ⌝ }
+    requires { ⌜ Ready list plan × Wholes list plan (now wholes) ⌝ }
     requires { ⌜ sharesBroken (net list) (groupsIn list plan) (sharesIn list plan) ≡ false ⌝ }
     ensures { λ r. ⌜ Holds r (scaledLoad (net list) (groupsIn list plan) (sharesIn list plan)) 64 ⌝ }
 {
@@ -242,7 +261,7 @@ fn loads(
     let mut i: usize = 0;
     while i < list.count {
         let s = list.sites[i];
-        let all = whole(s, places, sizes);
+        let all = wholes[i];
         let share = plan.shares[i];
         let a = s.first as usize;
         let b = s.second as usize;
@@ -260,21 +279,23 @@ fn level(w: u64) -> u64
     w
 }
 
-// Row 15.
+// Row 15: `all` are the listed depots.
 fn loads_uneven(
+    all: u64,
     list: ListArray,
     plan: PlanArray,
     places: &[u8],
-    sizes: &[u64],
     litres: &[u64],
+    wholes: &[u64],
 ) -> bool
-    requires { ⌜ Ready list plan × Tables list plan (now places) (now sizes) ⌝ }
+    requires { ⌜ all ≡ setOf (net list .listed) 64 ⌝ }
+    requires { ⌜ Ready list plan × Wholes list plan (now wholes) ⌝ }
     requires { ⌜ sharesBroken (net list) (groupsIn list plan) (sharesIn list plan) ≡ false ⌝ }
+    requires { ⌜ (length (now places) ≡ 64) × Holds (now places) (place (groupsIn list plan)) 64 ⌝ }
     requires { ⌜ (length (now litres) ≡ 64) × Litres list (now places) (now litres) ⌝ }
     ensures { λ r. ⌜ r ≡ loadsUneven (net list) (groupsIn list plan) (sharesIn list plan) ⌝ }
 {
-    let all = listed(list);
-    let sums = loads([0u64; 64], list, plan, places, sizes);
+    let sums = loads([0u64; 64], list, plan, wholes);
     let mut d: u8 = 0;
     while d < 64 {
         if sets::contains(all, d) {
@@ -303,26 +324,52 @@ fn groups_rise(n: usize, litres: &[u64], sizes: &[u64]) -> bool
     false
 }
 
+// Rows 12 to 14, of what the pass over the sites found.
+fn form_of(groups: &[u64], listed: u64, broken: bool) -> Verdict
+    ensures { λ r. ⌜ r ≡ verdict (firstRow (formRows (now (groups .entry)) listed broken)) ⌝ }
+{
+    if groups_meet(groups) {
+        return Verdict::Refused(12);
+    }
+    if union(groups) != listed {
+        return Verdict::Refused(13);
+    }
+    if broken {
+        return Verdict::Refused(14);
+    }
+    Verdict::Passes
+}
+
+// Rows 12 to 14, and what the later rows are tried on; w × q of each site goes to `wholes`.
+fn try_form(list: ListArray, plan: PlanArray, wholes: &mut [u64]) -> Form
+    requires { ⌜ Counted list plan × (length (now wholes) ≡ 512) ⌝ }
+    ensures { λ r. ⌜ Formed list plan r (now (wholes .exit)) ⌝ }
+{
+    let n = plan.count;
+    let sets = plan.groups;
+    let groups = &sets[..n];
+    let at = places(groups);
+    let q = sizes(groups);
+    let t = add_up(list, plan, &at, &q, wholes);
+    let verdict = form_of(groups, t.listed, t.broken);
+    let litres = t.litres;
+    Form {
+        verdict,
+        listed: t.listed,
+        places: at,
+        sizes: q,
+        litres,
+    }
+}
+
 // Rows 12 to 14.
 pub fn form_row(list: ListArray, plan: PlanArray) -> Verdict
     requires { ⌜ Counted list plan ⌝ }
     ensures { λ r. ⌜ r ≡ verdict (firstRow (take 3 (planRows (net list) (groupsIn list plan) (sharesIn list plan)))) ⌝ }
 {
-    let n = plan.count;
-    let sets = plan.groups;
-    let groups = &sets[..n];
-    if groups_meet(groups) {
-        return Verdict::Refused(12);
-    }
-    if groups_unlisted(list, groups) {
-        return Verdict::Refused(13);
-    }
-    let at = places(groups);
-    let q = sizes(groups);
-    if shares_broken(list, plan, &at, &q) {
-        return Verdict::Refused(14);
-    }
-    Verdict::Passes
+    let mut wholes = [0u64; 512];
+    let f = try_form(list, plan, &mut wholes);
+    f.verdict
 }
 
 // Rows 12 to 16.
@@ -330,20 +377,19 @@ pub fn plan_row(list: ListArray, plan: PlanArray) -> Verdict
     requires { ⌜ Counted list plan ⌝ }
     ensures { λ r. ⌜ r ≡ verdict (firstRow (planRows (net list) (groupsIn list plan) (sharesIn list plan))) ⌝ }
 {
-    let form = form_row(list, plan);
-    if let Verdict::Refused(row) = form {
+    let mut wholes = [0u64; 512];
+    let f = try_form(list, plan, &mut wholes);
+    let verdict = f.verdict;
+    if let Verdict::Refused(row) = verdict {
         return Verdict::Refused(row);
     }
-    let n = plan.count;
-    let sets = plan.groups;
-    let groups = &sets[..n];
-    let at = places(groups);
-    let q = sizes(groups);
-    let w = litres(list, &at);
-    if loads_uneven(list, plan, &at, &q, &w) {
+    let at = f.places;
+    let q = f.sizes;
+    let w = f.litres;
+    if loads_uneven(f.listed, list, plan, &at, &w, &wholes) {
         return Verdict::Refused(15);
     }
-    if groups_rise(n, &w, &q) {
+    if groups_rise(plan.count, &w, &q) {
         return Verdict::Refused(16);
     }
     Verdict::Passes

@@ -14,16 +14,13 @@ use Rattle.verify.proofs.loads_uneven.Statement.{statement}
 use Rattle.verify.proofs.loads_uneven.Tie as tie
 
 abbrev Inv-loop : tie.InvT-loop
-Inv-loop places sizes litres all sums d₀ d = (d ≤ 64) × ((l : Listing) → any (unevenAt l all sums places litres) d ≡ false)
+Inv-loop all places litres wholes sums d₀ d = (d ≤ 64) × ((l : Listing) → any (unevenAt l all sums places litres) d ≡ false)
 
 abbrev μ-loop : tie.MeasureT-loop
-μ-loop places sizes litres all sums d₀ d = 64 - d
-
-listed-requires : tie.Need-listed-requires Inv-loop μ-loop
-listed-requires c κs = (c .before .before .before .pre .0 .0 .counted .sites, c .before .before .before .pre .0 .0 .counted .range)
+μ-loop all places litres wholes sums d₀ d = 64 - d
 
 loads-requires : tie.Need-loads-requires Inv-loop μ-loop
-loads-requires c κs = (refl, (c .before .before .before .before .pre .0, c .before .before .before .before .pre .1 .0))
+loads-requires c κs = (refl, (c .before .before .before .pre .1 .0, c .before .before .before .pre .1 .1 .0))
 
 loop-holds : tie.Need-loop-holds Inv-loop μ-loop
 loop-holds c = (search needs, λ l. any-start _)
@@ -35,25 +32,22 @@ cast-w : tie.Need-cast-w Inv-loop μ-loop
 cast-w c = omega (arith, c .before .before .loop-test .taken)
 
 shared-slice-read-w : tie.Need-shared-slice-read-w Inv-loop μ-loop
-shared-slice-read-w c = omega (arith, c .before .before .before .before .before .before .before .before .before .before .pre .0 .1 .length-places, c .before .before .before .loop-test .taken)
+shared-slice-read-w c = omega (arith, c .before .before .before .before .before .before .before .before .before .pre .1 .1 .1 .0 .0, c .before .before .before .loop-test .taken)
 
 cast-w-2 : tie.Need-cast-w-2 Inv-loop μ-loop
 cast-w-2 c =
-    let s = c .before .before .before .before .before .before .before .before .before .before in
-    let p = listed-place (s .args .list) (s .args .plan) (s .pre .0 .0) (s .args .places .now) (s .args .sizes .now) (s .pre .0 .1) (c .before .before .before .before .before .before .listed .result) (c .before .before .before .before .loop .d) (c .before .before .before .before .before .before .listed .ensures) (c .before .before .before .loop-test .taken) (sym (c .before .before .contains .ensures) ∙ c .before .if1 .taken) in
-    omega (arith, p)
+    let s = c .before .before .before .before .before .before .before .before .before in
+    omega (arith, listed-place (s .args .list) (s .args .plan) (s .pre .1 .0 .0) (s .args .places .now) (s .pre .1 .1 .1 .0 .1) (s .args .all) (c .before .before .before .before .loop .d) (s .pre .0) (c .before .before .before .loop-test .taken) (sym (c .before .before .contains .ensures) ∙ c .before .if1 .taken))
 
 mul-w : tie.Need-mul-w Inv-loop μ-loop
 mul-w c =
-    let s = c .before .before .before .before .before .before .before .before .before .before in
-    let p = listed-place (s .args .list) (s .args .plan) (s .pre .0 .0) (s .args .places .now) (s .args .sizes .now) (s .pre .0 .1) (c .before .before .before .before .before .before .listed .result) (c .before .before .before .before .loop .d) (c .before .before .before .before .before .before .listed .ensures) (c .before .before .before .loop-test .taken) (sym (c .before .before .contains .ensures) ∙ c .before .if1 .taken) in
-    omega (arith, p)
+    let s = c .before .before .before .before .before .before .before .before .before in
+    omega (arith, listed-place (s .args .list) (s .args .plan) (s .pre .1 .0 .0) (s .args .places .now) (s .pre .1 .1 .1 .0 .1) (s .args .all) (c .before .before .before .before .loop .d) (s .pre .0) (c .before .before .before .loop-test .taken) (sym (c .before .before .contains .ensures) ∙ c .before .if1 .taken))
 
 shared-slice-read-w-2 : tie.Need-shared-slice-read-w-2 Inv-loop μ-loop
 shared-slice-read-w-2 c =
-    let s = c .before .before .before .before .before .before .before .before .before .before .before in
-    let p = listed-place (s .args .list) (s .args .plan) (s .pre .0 .0) (s .args .places .now) (s .args .sizes .now) (s .pre .0 .1) (c .before .before .before .before .before .before .before .listed .result) (c .before .before .before .before .before .loop .d) (c .before .before .before .before .before .before .before .listed .ensures) (c .before .before .before .before .loop-test .taken) (sym (c .before .before .before .contains .ensures) ∙ c .before .before .if1 .taken) in
-    omega (arith, p, s .pre .1 .1 .0)
+    let s = c .before .before .before .before .before .before .before .before .before .before in
+    omega (arith, listed-place (s .args .list) (s .args .plan) (s .pre .1 .0 .0) (s .args .places .now) (s .pre .1 .1 .1 .0 .1) (s .args .all) (c .before .before .before .before .before .loop .d) (s .pre .0) (c .before .before .before .before .loop-test .taken) (sym (c .before .before .before .contains .ensures) ∙ c .before .before .if1 .taken), s .pre .1 .1 .1 .1 .0)
 
 cast-if2 : tie.Need-cast-if2 Inv-loop μ-loop
 cast-if2 c = omega (arith, c .before .before .before .before .loop-test .taken)
@@ -69,10 +63,10 @@ level-requires c κs = search needs
 
 returns : tie.Need-returns Inv-loop μ-loop
 returns c =
-    let s = c .before .before .before .before .before .before .before .before .before .before .before .before .before in
+    let s = c .before .before .before .before .before .before .before .before .before .before .before .before in
     let d = c .before .before .before .before .before .before .before .loop .d in
-    let is = uneven-is (s .args .list) (s .args .plan) (s .pre .0 .0) (s .args .places .now) (s .args .sizes .now) (s .pre .0 .1) (s .args .litres .now) (s .pre .1 .1 .1) (c .before .before .before .before .before .before .before .before .before .listed .result) (c .before .before .before .before .before .before .before .before .before .listed .ensures) (c .before .before .before .before .before .before .before .before .loads .result) (c .before .before .before .before .before .before .before .before .loads .ensures) in
-    sym (sym is ∙ any-here _ 64 d (c .before .before .before .before .before .before .loop-test .taken) (uneven-here (listing (s .args .list)) (c .before .before .before .before .before .before .before .before .before .listed .result) (c .before .before .before .before .before .before .before .before .loads .result) (s .args .places .now) (s .args .litres .now) d (sym (c .before .before .before .before .before .contains .ensures) ∙ c .before .before .before .before .if1 .taken) (c .before .level .result) (c .before .level .ensures (listing (s .args .list)) d) (c .if2 .taken)))
+    let is = uneven-is (s .args .list) (s .args .plan) (s .pre .1 .0 .0) (s .args .places .now) (s .pre .1 .1 .1 .0 .1) (s .args .litres .now) (s .pre .1 .1 .1 .1 .1) (s .args .all) (s .pre .0) (c .before .before .before .before .before .before .before .before .loads .result) (c .before .before .before .before .before .before .before .before .loads .ensures) in
+    sym (sym is ∙ any-here _ 64 d (c .before .before .before .before .before .before .loop-test .taken) (uneven-here (listing (s .args .list)) (s .args .all) (c .before .before .before .before .before .before .before .before .loads .result) (s .args .places .now) (s .args .litres .now) d (sym (c .before .before .before .before .before .contains .ensures) ∙ c .before .before .before .before .if1 .taken) (c .before .level .result) (c .before .level .ensures (listing (s .args .list)) d) (c .if2 .taken)))
 
 add-d : tie.Need-add-d Inv-loop μ-loop
 add-d c = search needs
@@ -82,21 +76,21 @@ loop-less c = search needs
 
 loop-again : tie.Need-loop-again Inv-loop μ-loop
 loop-again c =
-    let s = c .before .before .before .before .before .before .before .before .before in
+    let s = c .before .before .before .before .before .before .before .before in
     let d = c .before .before .before .loop .d in (
       search needs,
       λ l.
           any-more _ d (c .before .before .before .loop .inv .1 l)
-          (⊎-elim (λ v. even-here l (c .before .before .before .before .before .listed .result) (c .before .before .before .before .loads .result) (s .args .places .now) (s .args .litres .now) d (v .3 .result) (v .3 .ensures l d) (v .4 .left))
-          (λ v. unlisted-here l (c .before .before .before .before .before .listed .result) (c .before .before .before .before .loads .result) (s .args .places .now) (s .args .litres .now) d (sym (c .before .contains .ensures) ∙ v .left))
+          (⊎-elim (λ v. even-here l (s .args .all) (c .before .before .before .before .loads .result) (s .args .places .now) (s .args .litres .now) d (v .3 .result) (v .3 .ensures l d) (v .4 .left))
+          (λ v. unlisted-here l (s .args .all) (c .before .before .before .before .loads .result) (s .args .places .now) (s .args .litres .now) d (sym (c .before .contains .ensures) ∙ v .left))
           (c .if1 .came)),
     )
 
 returns-2 : tie.Need-returns-2 Inv-loop μ-loop
 returns-2 c =
-    let s = c .before .before .before .before .before .before .before in
+    let s = c .before .before .before .before .before .before in
     let end : c .before .loop .d ≡ 64 = omega arith in
-    let is = uneven-is (s .args .list) (s .args .plan) (s .pre .0 .0) (s .args .places .now) (s .args .sizes .now) (s .pre .0 .1) (s .args .litres .now) (s .pre .1 .1 .1) (c .before .before .before .listed .result) (c .before .before .before .listed .ensures) (c .before .before .loads .result) (c .before .before .loads .ensures) in
+    let is = uneven-is (s .args .list) (s .args .plan) (s .pre .1 .0 .0) (s .args .places .now) (s .pre .1 .1 .1 .0 .1) (s .args .litres .now) (s .pre .1 .1 .1 .1 .1) (s .args .all) (s .pre .0) (c .before .before .loads .result) (c .before .before .loads .ensures) in
     sym (sym is ∙ ap (any _) (sym end) ∙ c .before .loop .inv .1 (listing (s .args .list)))
 
 pub loads-uneven-spec : {M : Type 1} → statement M
@@ -105,7 +99,6 @@ loads-uneven-spec =
     (tie.spec
     Inv-loop
     μ-loop
-    listed-requires
     loads-requires
     loop-holds
     contains-requires

@@ -1,132 +1,35 @@
--- `records::list::sites` meets its contract. The loop's invariant: the first i sites are in their places, and each test tells of the first i records. Assumes nothing.
-use Prim.Native.Nat.{ℕ, _≤_, _<_, _+_, _*_, _-_}
-use mathlib.Core.Bool.{Bool}
-use mathlib.Core.Path.{_≡_, refl, _∙_, sym, ap}
-use mathlib.Core.List.{List, [], _++_, map}
-use native.Mathlib.Nat.{mul-suc}
-use native.Mathlib.Numerals.{add-one}
+-- `records::list::sites` meets its contract. Assumes nothing.
+use mathlib.Core.Path.{_≡_, sym, ap, _∙_}
+use Prim.Native.Nat.{_≤_, _+_, _*_}
 use native.Mathlib.Omega.{arith}
-use lib.ListN.{length, take, drop, getD, replicate, length-map}
-use Rattle.sets.specs.Sum.{any}
-use Rattle.density.specs.Network.{noSite}
-use Rattle.density.specs.declared.Site.{Site}
+use lib.ListN.{length}
 use Rattle.records.specs.declared.Edition.{Edition}
-use Rattle.records.specs.declared.SiteRead.{SiteRead}
-use Rattle.records.specs.Answer.{siteRead}
-use Rattle.records.specs.Record.{records, wrongMark}
-use Rattle.records.specs.Format.{siteSize, siteOf, wrongDepot, noLitres}
-use Rattle.records.proofs.Records.{mul-room, length-records, records-from, fill-next, fill-all, test-next, test-all, any-none}
+use Rattle.records.specs.Answer.{sitesRead}
+use Rattle.records.specs.Format.{siteSize}
+use borrow.Author.Needs.{needs}
 use Rattle.records.proofs.list.sites.Statement.{statement}
 use Rattle.records.proofs.list.sites.Tie as tie
 
--- the records, the sites, and what a test says of the first i records
-abbrev recs : Edition → ℕ → List ℕ → List (List ℕ)
-recs e n s = records (siteSize e) n (drop 4 s)
+known : (e : Edition) → e .litres ≡ 2 → e ≡ record { mark = e .mark; litres = 2; share = e .share }
+known e h = ap (λ w. record { mark = e .mark; litres = w; share = e .share }) h
 
-abbrev all : Edition → ℕ → List ℕ → List Site
-all e n s = map (siteOf (e .litres)) (recs e n s)
+sites-by-requires : tie.Need-sites-by-requires
+sites-by-requires c κs =
+    let s = c .before .before .before .before in
+    let room : 4 + siteSize (s .args .e) * s .args .n ≤ length (s .args .s .now) = s .pre .2 in
+    (omega arith, s .pre .1, rw (c .before .if1 .taken) at room)
 
-abbrev tested : (List ℕ → Bool) → Edition → ℕ → List ℕ → ℕ → Bool
-tested p e n s i = any (λ j. p (getD (recs e n s) j [])) i
-
-abbrev Inv-loop : tie.InvT-loop
-Inv-loop e n s size sites₀ marks₀ depots₀ litres₀ at₀ i₀ sites marks depots litres at i =
-    (i ≤ n)
-    × (at ≡ 4 + siteSize e * i)
-    × (sites ≡ take i (all e n s) ++ replicate (512 - i) noSite)
-    × (marks ≡ tested (wrongMark (e .mark .site)) e n s i)
-    × (depots ≡ tested wrongDepot e n s i)
-    × (litres ≡ tested (noLitres (e .litres)) e n s i)
-
-abbrev μ-loop : tie.MeasureT-loop
-μ-loop e n s size sites₀ marks₀ depots₀ litres₀ at₀ i₀ sites marks depots litres at i = n - i
-
-room : (c : tie.In-loop Inv-loop μ-loop)
-    → c .before .loop .at + siteSize (c .before .before .before .before .args .e) ≤ length (c .before .before .before .before .args .s .now)
-room c = omega (arith, mul-room (siteSize (c .before .before .before .before .args .e)) (c .loop-test .taken))
-
-add-size : tie.Need-add-size Inv-loop μ-loop
-add-size c = omega arith
-
-loop-holds : tie.Need-loop-holds Inv-loop μ-loop
-loop-holds c = (omega arith, omega arith, refl, sym (any-none _), sym (any-none _), sym (any-none _))
-
-site-at-requires : tie.Need-site-at-requires Inv-loop μ-loop
-site-at-requires c κs = (omega arith, room c)
-
-mul-sites : tie.Need-mul-sites Inv-loop μ-loop
-mul-sites c = omega arith
-
-array-set-from-sites : tie.Need-array-set-from-sites Inv-loop μ-loop
-array-set-from-sites c = omega arith
-
-either-requires : tie.Need-either-requires Inv-loop μ-loop
-either-requires c κs = tt
-
-either-requires-2 : tie.Need-either-requires-2 Inv-loop μ-loop
-either-requires-2 c κs = tt
-
-either-requires-3 : tie.Need-either-requires-3 Inv-loop μ-loop
-either-requires-3 c κs = tt
-
-add-at : tie.Need-add-at Inv-loop μ-loop
-add-at c = omega (arith, room (c .before .before .before .before .before))
-
-add-i : tie.Need-add-i Inv-loop μ-loop
-add-i c = omega arith
-
-loop-less : tie.Need-loop-less Inv-loop μ-loop
-loop-less c = omega arith
-
-loop-again : tie.Need-loop-again Inv-loop μ-loop
-loop-again c =
-    let t = c .before .before .before .before .before in
-    let l = t .before .loop in
-    let a = t .before .before .before .before .args in
-    let rs = recs (a .e) (a .n) (a .s .now) in
-    let h : l .i < a .n = t .loop-test .taken in
-    let at-i : siteRead (a .e) (take (siteSize (a .e)) (drop (l .at) (a .s .now))) ≡ siteRead (a .e) (getD rs (l .i) []) =
-    rw (records-from (siteSize (a .e)) 4 (a .s .now) h, l .inv .1) in
-    let r = c .before .before .before .before .site-at .ensures ∙ at-i in
-    let long : l .i < length rs = rw length-records h in (
-      omega arith,
-      rw (add-one, mul-suc) (omega arith),
-      fill-next (siteOf (a .e .litres)) rs (l .i) 512 noSite long (omega arith) (l .inv .2) (ap (λ (x : SiteRead). x .site) r),
-      test-next (wrongMark (a .e .mark .site)) rs (l .i) (l .inv .3) (ap (λ (x : SiteRead). x .mark) r) (c .before .before .either .ensures),
-      test-next wrongDepot rs (l .i) (l .inv .4) (ap (λ (x : SiteRead). x .depot) r) (c .before .either2 .ensures),
-      test-next (noLitres (a .e .litres)) rs (l .i) (l .inv .5) (ap (λ (x : SiteRead). x .litres) r) (c .either3 .ensures),
-    )
-
-returns : tie.Need-returns Inv-loop μ-loop
+returns : tie.Need-returns
 returns c =
-    let l = c .before .loop in
-    let a = c .before .before .before .before .args in
-    let rs = recs (a .e) (a .n) (a .s .now) in
-    let many : length rs ≡ l .i = length-records (siteSize (a .e)) (a .n) (drop 4 (a .s .now)) ∙ omega arith in
-    let long : length (map (siteOf (a .e .litres)) rs) ≡ l .i = length-map rs (siteOf (a .e .litres)) ∙ many in
-    cc (
-      fill-all (map (siteOf (a .e .litres)) rs) 512 noSite long (l .inv .2),
-      test-all (wrongMark (a .e .mark .site)) rs many (l .inv .3),
-      test-all wrongDepot rs many (l .inv .4),
-      test-all (noLitres (a .e .litres)) rs many (l .inv .5),
-    )
+    let a = c .before .before .before .before .before .args in
+    let e : a .e ≡ record { mark = a .e .mark; litres = 2; share = a .e .share } = known (a .e) (c .before .before .if1 .taken) in
+    c .sites-by .ensures ∙ ap (λ (x : Edition). sitesRead x (a .n) (a .s .now)) (sym e)
+
+sites-by-requires-2 : tie.Need-sites-by-requires-2
+sites-by-requires-2 c κs = search needs
+
+returns-2 : tie.Need-returns-2
+returns-2 c = search needs
 
 pub sites-spec : {M : Type 1} → statement M
-sites-spec =
-    tie.close
-    (tie.spec
-    Inv-loop
-    μ-loop
-    add-size
-    loop-holds
-    site-at-requires
-    mul-sites
-    array-set-from-sites
-    either-requires
-    either-requires-2
-    either-requires-3
-    add-at
-    add-i
-    loop-less
-    loop-again
-    returns)
+sites-spec = tie.close (tie.spec sites-by-requires returns sites-by-requires-2 returns-2)

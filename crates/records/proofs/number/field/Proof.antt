@@ -1,34 +1,60 @@
+-- `records::number::field` meets its contract. Assumes nothing.
 use borrow.Author.Needs.{needs}
 use native.Mathlib.Nat.{add-sub-cancel-left}
 use Rattle.records.proofs.number.field.Statement.{statement}
 use Rattle.records.proofs.number.field.Tie as tie
 
--- src/record.rt:15:26
+four-requires : tie.Need-four-requires
+four-requires c κs = search needs
+
+returns : tie.Need-returns
+returns c = rw (c .before .if1 .taken) (c .four .ensures)
+
+two-requires : tie.Need-two-requires
+two-requires c κs = search needs
+
+returns-2 : tie.Need-returns-2
+returns-2 c = rw (c .before .if2 .taken) (c .two .ensures)
+
+eight-requires : tie.Need-eight-requires
+eight-requires c κs = search needs
+
+returns-3 : tie.Need-returns-3
+returns-3 c = rw (c .before .if3 .taken) (c .eight .ensures)
+
 add-value : tie.Need-add-value
 add-value c = search needs
 
--- src/record.rt:15:19
 sub-value : tie.Need-sub-value
 sub-value c = search needs
 
--- src/record.rt:15:19
 part-value-start : tie.Need-part-value-start
 part-value-start c = search needs
 
--- src/record.rt:15:19
 part-value-end : tie.Need-part-value-end
 part-value-end c = search needs
 
--- src/record.rt:15:5
 value-requires : tie.Need-value-requires
 value-requires c κs = search needs
 
--- src/record.rt:11:1
-returns : tie.Need-returns
-returns c =
-    let a = c .before .before .before .args in
+returns-4 : tie.Need-returns-4
+returns-4 c =
+    let a = c .before .before .before .before .before .before .args in
     rw (add-sub-cancel-left (a .at) (a .w)) at (c .value .ensures)
 
 pub field-spec : {M : Type 1} → statement M
 field-spec =
-    tie.close (tie.spec add-value sub-value part-value-start part-value-end value-requires returns)
+    tie.close
+    (tie.spec
+    four-requires
+    returns
+    two-requires
+    returns-2
+    eight-requires
+    returns-3
+    add-value
+    sub-value
+    part-value-start
+    part-value-end
+    value-requires
+    returns-4)

@@ -10,6 +10,9 @@ use Rattle.records.proofs.scan.step_at.Tie as tie
 returns : tie.Need-returns
 returns c = simp (lt-ltb _ _ (c .if1 .taken))
 
+add-size : tie.Need-add-size
+add-size c = search needs
+
 returns-2 : tie.Need-returns-2
 returns-2 c =
     let a = c .before .before .before .args in
@@ -17,9 +20,6 @@ returns-2 c =
 
 sub-if3 : tie.Need-sub-if3
 sub-if3 c = search needs
-
-add-if3 : tie.Need-add-if3
-add-if3 c = search needs
 
 returns-3 : tie.Need-returns-3
 returns-3 c =
@@ -35,11 +35,8 @@ add-field c = search needs
 field-requires-2 : tie.Need-field-requires-2
 field-requires-2 c κs = search needs
 
-add-t8 : tie.Need-add-t8
-add-t8 c = search needs
-
-add-t7 : tie.Need-add-t7
-add-t7 c = search needs
+add-t9 : tie.Need-add-t9
+add-t9 c = search needs
 
 returns-4 : tie.Need-returns-4
 returns-4 c =
@@ -52,13 +49,12 @@ step-at-spec =
     tie.close
     (tie.spec
     returns
+    add-size
     returns-2
     sub-if3
-    add-if3
     returns-3
     field-requires
     add-field
     field-requires-2
-    add-t8
-    add-t7
+    add-t9
     returns-4)
