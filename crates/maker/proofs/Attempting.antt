@@ -10,7 +10,7 @@ use lib.Dec.{eqb}
 use lib.ListN.{length, replicate}
 use Rattle.sets.specs.Set.{has, setOf}
 use Rattle.sets.specs.Sum.{sum}
-use Rattle.sets.proofs.Sum.{sum-mono, sum-zero}
+use Rattle.sets.proofs.Sum.{sum-grows, sum-mono, sum-more, sum-zero}
 use Rattle.sets.proofs.Test.{when-≤}
 use Rattle.flow.specs.Array.{at, totalLoad}
 use Rattle.flow.specs.Moves.{Loaded}
@@ -20,7 +20,7 @@ use Rattle.maker.specs.Lay.{Aiming, Laying}
 use Rattle.maker.specs.Outcome.{brings, litresOf}
 use Rattle.maker.proofs.Aiming.{aimed}
 use Rattle.maker.proofs.Laid.{Laid, leaves, outcome, takes}
-use Rattle.maker.proofs.Laws.{both-true, sum-grows, sum-more, zero-at}
+use Rattle.maker.proofs.Laws.{both-true, zero-at}
 use Rattle.maker.proofs.AllLaid.{lay-laid, second-none, side, side-first, side-second}
 use Rattle.maker.proofs.Laying.{brings-most}
 use Rattle.flow.specs.Rounds as rounds

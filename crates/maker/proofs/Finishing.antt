@@ -11,7 +11,7 @@ use lib.Dec.{T, T-not, eqb, eqb→eq, not-T}
 use Rattle.sets.specs.Set.{Depots, _∖_, _∪_, has, weigh}
 use Rattle.sets.specs.Sum.{when}
 use Rattle.sets.proofs.Member.{has-setOf, member-lt}
-use Rattle.sets.proofs.Sum.{sum-cong}
+use Rattle.sets.proofs.Sum.{sum-cong, sum-cut}
 use Rattle.sets.proofs.Test.{T?, and-i, and-l, and-r, is-false, is-true, or-cases, or-l, or-r, passes, when-off, when-on, when-zero}
 use Rattle.density.specs.Groups.{Candidate}
 use Rattle.density.specs.Network.{Network, Valid, counts, litres, size, touches, within}
@@ -24,7 +24,7 @@ use Rattle.maker.specs.Arrays.{Holds, arc}
 use Rattle.maker.specs.Attempt.{Attempted}
 use Rattle.maker.proofs.Built.{Finished, sharesOf}
 use Rattle.maker.proofs.Held.{arc-is, arc-lt, litres-held, reverse-arc, size-held}
-use Rattle.maker.proofs.Laws.{arc-load, not-both, sum-cut}
+use Rattle.maker.proofs.Laws.{arc-load, not-both}
 use Rattle.maker.proofs.AllLaid.{Side, side}
 use Rattle.flow.specs.Rounds as flow
 

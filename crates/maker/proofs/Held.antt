@@ -7,14 +7,13 @@ use Prim.Native.Nat.{_+_, _<_, ℕ}
 use native.Mathlib.Omega.{arith}
 use Rattle.sets.specs.Set.{Depots, weigh}
 use Rattle.sets.specs.Sum.{when}
-use Rattle.sets.proofs.Sum.{sum-cong}
+use Rattle.sets.proofs.Sum.{sum-cong, sum-cut}
 use Rattle.sets.proofs.Test.{when-zero}
 use Rattle.density.specs.Network.{Network, counts, litres, size}
 use Rattle.flow.specs.Array.{at}
 use Rattle.flow.specs.Search.{reverse}
 use Rattle.maker.specs.Arrays.{Holds, arc}
 use Rattle.maker.specs.Outcome.{brings, litresOf, siteIn}
-use Rattle.maker.proofs.Laws.{sum-cut}
 use Rattle.maker.proofs.AllLaid.{side-first, side-second}
 
 module _ {N : Network} {ends litre crews : List ℕ} {listed : ℕ} (h : Holds N ends litre crews listed) where

@@ -12,14 +12,14 @@ use lib.ListN.{length, length-set, set}
 use lib.Seq.{getD-set-other, getD-set-same}
 use Rattle.sets.specs.Set.{Depots}
 use Rattle.sets.specs.Sum.{sum, when}
-use Rattle.sets.proofs.Sum.{sum-cong, sum-mono}
+use Rattle.sets.proofs.Sum.{sum-cong, sum-grows, sum-mono, sum-more}
 use Rattle.sets.proofs.Test.{when-zero, when-≤}
 use Rattle.density.specs.Network.{counts}
 use Rattle.flow.specs.Array.{at, totalLoad}
 use Rattle.flow.proofs.Laws.{below?, stored}
 use Rattle.maker.specs.Lay.{Laying, Ready, SiteLaid, raise}
 use Rattle.maker.specs.Outcome.{brings, siteIn}
-use Rattle.maker.proofs.Laws.{both-true, not-both, raise-total, sum-grows, sum-more}
+use Rattle.maker.proofs.Laws.{both-true, not-both, raise-total}
 
 held-not : (ends : List ℕ) (d j x : ℕ) → (at ends j ≡ d → ⊥) → when (eqb (at ends j) d) x ≡ 0
 held-not ends d j x e = rw (ne-eqb (at ends j) d e)

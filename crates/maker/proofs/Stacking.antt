@@ -10,12 +10,12 @@ use lib.Dec.{T, T-not, not-T}
 use lib.ListN.{length-set, set}
 use lib.Seq.{getD-set-other, getD-set-same}
 use Rattle.sets.specs.Set.{Depots, _∖_, _∪_, _⊆_, cardinality, has, setOf, weigh}
-use Rattle.sets.specs.Sum.{any, sum}
+use Rattle.sets.specs.Sum.{sum}
 use Rattle.sets.proofs.Member.{has-none, has-some, setOf-lt}
-use Rattle.sets.proofs.Set.{has-union, has-without, subset→, ⊆-antisym}
-use Rattle.sets.proofs.Sum.{any-at, sum-mono, sum-term}
+use Rattle.sets.proofs.Set.{has-union, has-without, ⊆-antisym}
+use Rattle.sets.proofs.Sum.{sum-mono, sum-term}
 use Rattle.sets.proofs.Test.{T-ext, T?, and-i, and-l, and-r, fails, is-false, or-cases, or-l, or-r, passes, when-≤}
-use Rattle.sets.proofs.Weigh.{weigh-lt}
+use Rattle.sets.proofs.Weigh.{cardinality-lt}
 use Rattle.density.specs.Groups.{Candidate}
 use Rattle.density.specs.Network.{Network, Valid}
 use Rattle.density.proofs.Split.{Threshold, full, threshold, threshold-more}
@@ -26,18 +26,6 @@ use Rattle.maker.specs.Arrays.{Holds, Shares, Tables}
 use Rattle.maker.specs.Attempt.{Attempted, Stage}
 use Rattle.maker.proofs.Finishing.{settled, spread}
 use Rattle.maker.proofs.Making.{Stacked}
-
--- a part of a set that is not all of it has fewer depots
-pub cardinality-lt : {x y : ℕ} → y < 2 ^ 64 → has x ⊆ has y → (x ≡ y → ⊥) → cardinality (has x) 64 < cardinality (has y) 64
-unfolding cardinality
-cardinality-lt {x} {y} h s n =
-    ⊎-elim
-    (λ t.
-    let r = any-at (has y ∖ has x) 64 t in
-    weigh-lt (λ d. 1) (has x) (has y) 64 s (r .0) (r .1) (and-l (has y (r .0)) (not (has x (r .0))) (r .2))
-    (T-not (has x (r .0)) (and-r (has y (r .0)) (not (has x (r .0))) (r .2))) (omega arith))
-    (λ f. absurd (n (⊆-antisym x y s (subset→ 64 x h (not-T (any (has y ∖ has x) 64) f)))))
-    (T? (any (has y ∖ has x) 64))
 
 -- a set has no more crews than all depots
 crews-most : (crews : List ℕ) (X : Depots) → weigh (at crews) X 64 ≤ sum (at crews) 64

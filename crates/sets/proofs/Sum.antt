@@ -3,7 +3,8 @@ use mathlib.Core.Path.{_≡_, refl, sym, ap, _∙_}
 use mathlib.Core.Logic.{⊎-elim, _≢_}
 use mathlib.Core.Bool.{Bool, true, false}
 use Prim.Native.Nat.{ℕ, zero, suc, _+_, _*_, _≤_, _<_}
-use native.Mathlib.Nat.{le-trans, le-of-eq, le-refl, le-step, add-le-add, eq-or-lt-of-le, le-of-suc-le-suc}
+use native.Mathlib.Nat.{add-zero, add-suc, le-trans, le-of-eq, le-refl, le-step, add-le-add, eq-or-lt-of-le, le-of-suc-le-suc}
+use native.Mathlib.Numerals.{add-one}
 use native.Mathlib.Omega.{arith}
 use lib.Dec.{T, eqb, eqb→eq}
 use Rattle.sets.specs.Sum.{when, sum, all, any}
@@ -136,3 +137,28 @@ sum-change f g k (suc n) l h =
     omega (arith, sum-cong f g n (λ i m. h i (λ q. let z : ⊥ = omega arith in z)), ap f e, ap g e))
     (λ (m : k < n). omega (arith, sum-change f g k n m h, h n (λ q. let z : ⊥ = omega arith in z)))
     (eq-or-lt-of-le (le-of-suc-le-suc l))
+
+-- one term more, and more terms
+pub sum-more : (f : ℕ → ℕ) (n : ℕ) → sum f (n + 1) ≡ sum f n + f n
+unfolding sum
+sum-more f n = rw (add-one n)
+
+pub sum-split : (f : ℕ → ℕ) (m n : ℕ) → sum f (m + n) ≡ sum f m + sum (λ i. f (m + i)) n
+unfolding sum
+sum-split f m zero = rw (add-zero m) (omega arith)
+sum-split f m (suc n) = rw (add-suc m n) (omega (arith, sum-split f m n))
+
+pub sum-grows : (f : ℕ → ℕ) (n k : ℕ) → k ≤ n → sum f k ≤ sum f n
+unfolding sum
+sum-grows f zero k l = let z : k ≡ 0 = omega arith in rw z (omega arith)
+sum-grows f (suc n) k l =
+    ⊎-elim (λ (e : k ≡ suc n). rw e (omega arith)) (λ (m : k < suc n). omega (arith, sum-grows f n k (le-of-suc-le-suc m))) (eq-or-lt-of-le l)
+
+-- the first n terms are the same, and the others are 0
+pub sum-cut : (f g : ℕ → ℕ) (m n : ℕ) → n ≤ m → ((i : ℕ) → i < n → f i ≡ g i) → ((i : ℕ) → n ≤ i → i < m → f i ≡ 0) → sum f m ≡ sum g n
+unfolding sum
+sum-cut f g zero n h e z = ap (sum g) (let k : 0 ≡ n = omega arith in k)
+sum-cut f g (suc m) n h e z =
+    ⊎-elim (λ (k : n ≡ suc m). sum-cong f g (suc m) (λ i a. e i (omega arith)) ∙ ap (sum g) (sym k))
+    (λ (l : n < suc m). omega (arith, z m (le-of-suc-le-suc l) (omega arith), sum-cut f g m n (le-of-suc-le-suc l) e (λ i a b. z i a (omega arith))))
+    (eq-or-lt-of-le h)

@@ -1,17 +1,19 @@
 -- Weights of sets, how many depots they have, and the lowest. Assumes nothing.
 use mathlib.Core.Path.{_≡_, refl, sym, ap, ap₂, _∙_}
 use mathlib.Core.Bool.{Bool, true, false, not, cond, _&&_, _||_}
+use mathlib.Core.Logic.{⊎-elim}
 use Prim.Native.Nat.{ℕ, zero, suc, _+_, _*_, _/_, _^_, _≤_, _<_, zero-le, suc-le-suc}
 use native.Mathlib.Nat.{add-zero, le-trans, not-suc-le-zero, le-of-suc-le-suc, zero-lt-suc}
 use native.Mathlib.Numerals.{add-one}
 use native.Mathlib.Omega.{arith}
 use lib.Count.{ones, ones-step, ones-le, trailingZeros, under}
-use lib.Dec.{T, eqb}
-use Rattle.sets.specs.Sum.{when, sum}
+use lib.Dec.{T, eqb, T-not, not-T}
+use Rattle.sets.specs.Sum.{when, sum, any}
 use Rattle.sets.specs.Set.{Depots, only, _∪_, _∩_, _∖_, _⊆_, Apart, has, weigh, cardinality, lowest}
-use Rattle.sets.proofs.Test.{and-l, and-r, passes, eqb-swap, cond-on, when-on, when-off, when-≤, when-mono, when-cong}
-use Rattle.sets.proofs.Sum.{sum-cong, sum-mono, sum-lt, sum-zero, sum-add, sum-cong₂, sum-pick, sum-shift, sum-≤}
+use Rattle.sets.proofs.Test.{T?, and-l, and-r, passes, eqb-swap, cond-on, when-on, when-off, when-≤, when-mono, when-cong}
+use Rattle.sets.proofs.Sum.{any-at, sum-cong, sum-mono, sum-lt, sum-zero, sum-add, sum-cong₂, sum-pick, sum-shift, sum-≤}
 use Rattle.sets.proofs.Member.{half-lt, low-bit, has-suc}
+use Rattle.sets.proofs.Set.{subset→, ⊆-antisym}
 
 when-∪ : (a b : Bool) (n : ℕ) → when (a || b) n + when (a && b) n ≡ when a n + when b n
 when-∪ true true n = refl
@@ -94,6 +96,18 @@ cardinality-ones (suc k) x h =
     sum-shift (λ d. when (has x d) 1) k
     ∙ ap₂ _+_ (sym (low-bit x)) (weigh-cong (λ d. 1) (λ d. has x (suc d)) (has (x / 2)) k (λ d l. has-suc x d) ∙ cardinality-ones k (x / 2) (half-lt k h))
     ∙ sym (ones-step x)
+
+-- a part of a set that is not all of it has fewer depots
+pub cardinality-lt : {x y : ℕ} → y < 2 ^ 64 → has x ⊆ has y → (x ≡ y → ⊥) → cardinality (has x) 64 < cardinality (has y) 64
+unfolding cardinality
+cardinality-lt {x} {y} h s n =
+    ⊎-elim
+    (λ t.
+    let r = any-at (has y ∖ has x) 64 t in
+    weigh-lt (λ d. 1) (has x) (has y) 64 s (r .0) (r .1) (and-l (has y (r .0)) (not (has x (r .0))) (r .2))
+    (T-not (has x (r .0)) (and-r (has y (r .0)) (not (has x (r .0))) (r .2))) (omega arith))
+    (λ f. absurd (n (⊆-antisym x y s (subset→ 64 x h (not-T (any (has y ∖ has x) 64) f)))))
+    (T? (any (has y ∖ has x) 64))
 
 pub cardinality-le : (X : Depots) (k : ℕ) → cardinality X k ≤ k
 unfolding cardinality

@@ -8,7 +8,6 @@ use lib.Dec.{lit<}
 use lib.ListN.{length, getD, drop, set, replicate}
 use Rattle.density.specs.declared.Site.{Site}
 use Rattle.density.specs.Network.{noSite, siteAt}
-use Rattle.density.specs.Rows.{firstRow}
 use Rattle.records.specs.Bytes.{Bytes}
 use Rattle.records.specs.Record.{records}
 use Rattle.records.specs.Format.{siteSize, siteCount, siteOf, sitesOf, shareSize, groupCount, bodyOf}
@@ -17,7 +16,7 @@ use Rattle.store.specs.declared.Request.{Request}
 use Rattle.store.specs.declared.Request.the-variants.{Load, Change, Add, Propose, Share, Depot, Difference, Written}
 use Rattle.store.specs.Calls.{Call}
 use Rattle.store.specs.Model.{withLitres}
-use Rattle.store.specs.State.{State, Done, listOf, rows, effectOf, settle, step}
+use Rattle.store.specs.State.{State, Done, listOf, refusal, effectOf, settle, step}
 
 -- ---- a property of what stands at a place
 
@@ -141,4 +140,4 @@ module _ (m : ℕ) (s : State) (h : Fits m s) (c : Call) (bytes : Bytes (c .inpu
 
   -- After a step the widths are kept.
   pub step-fits : Named (256 ^ s .edition .litres) (c .request) → Fits m (step s c .after)
-  step-fits n = settle-fits (firstRow (rows s c)) (effectOf s c (c .request)) (effect-fits (c .request) n)
+  step-fits n = settle-fits (refusal s c) (effectOf s c (c .request)) (effect-fits (c .request) n)

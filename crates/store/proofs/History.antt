@@ -27,10 +27,10 @@ use Rattle.store.specs.declared.Request.the-variants.{Load, Change, Add,
 use Rattle.store.specs.Calls.{Call, Reply, Told, refused, done, shared, loaded, differ}
 use Rattle.judge.specs.Check.{True}
 use Rattle.store.specs.Model.{Model, missing, held, count, unlisted, rowsOf, modelRows, Turn, Turns, Proposes, SaysOf, Says, grantOf, settled, turned}
-use Rattle.store.specs.State.{State, Done, modelOf, planHeld, listOf, corrupt, fresh, effectOf, rows, settle, step}
+use Rattle.store.specs.State.{State, Done, modelOf, planHeld, listOf, corrupt, fresh, effectOf, refusal, settle, step}
 use Rattle.store.specs.Trace.{Run, start, then, Steps, History, AllBytes, after, passedSince, Question, Each, Exact}
-use Rattle.store.proofs.Rules.{granted-not-refused, not-zero}
-use Rattle.store.proofs.Steps.{Holds, holds-valid, Fed, fed, fresh-holds, row-zero-off, kept}
+use Rattle.store.proofs.Rules.{granted-not-refused}
+use Rattle.store.proofs.Steps.{Holds, holds-valid, Fed, fed, fresh-holds, row-zero-off, kept, not-zero}
 use Rattle.store.proofs.OneModel.{one-run, one-model}
 
 -- ---- a run of steps is a run of the model
@@ -88,7 +88,7 @@ module _ (s : State) (c : Call) where
   flag-step : (r : Reply) (s' : State) → Steps s c r s' → s' .store .held ≡ after (c .request) (r .answer) (s .store .held)
   flag-step r s' x =
       subst (λ (d : Done). d .after .store .held ≡ after (c .request) (d .reply .answer) (s .store .held)) (sym x)
-      (flag (firstRow (rows s c)) (c .request))
+      (flag (refusal s c) (c .request))
 
 flag-run : {s s' : State} {calls : List Call} {replies : List Reply} → Run Steps s calls replies s'
     → s' .store .held ≡ passedSince (s .store .held) calls replies

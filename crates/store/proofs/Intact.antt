@@ -43,17 +43,19 @@ Good l = (i : ℕ) → i < length (l .sites) → T (badSite (siteAt l i)) → �
 abbrev pub listing : List Site → Listing
 listing xs = record { sites = xs }
 
-pub good-valid : (l : Listing) → Good l → Valid (network l)
+pub good-range : (l : Listing) → Good l → T (depotsInRange l)
 unfolding depotsInRange
-good-valid l g =
-    valid l
-    (all-from (λ i. ltb (siteAt l i .first) 64 && ltb (siteAt l i .second) 64) (length (l .sites)) (λ i m.
+good-range l g =
+    all-from (λ i. ltb (siteAt l i .first) 64 && ltb (siteAt l i .second) 64) (length (l .sites)) (λ i m.
     let x = siteAt l i in
     let h = neither (ltb 63 (x .first) || ltb 63 (x .second)) (eqb (x .litres) 0) (g i m) .0 in
     let k = neither (ltb 63 (x .first)) (ltb 63 (x .second)) h in
     let a : x .first ≤ 63 = nltb→le 63 (x .first) (not-T (ltb 63 (x .first)) (k .0)) in
     let b : x .second ≤ 63 = nltb→le 63 (x .second) (not-T (ltb 63 (x .second)) (k .1)) in
-    and-i (ltb (x .first) 64) (ltb (x .second) 64) (lt→ltb (x .first) 64 (omega arith)) (lt→ltb (x .second) 64 (omega arith))))
+    and-i (ltb (x .first) 64) (ltb (x .second) 64) (lt→ltb (x .first) 64 (omega arith)) (lt→ltb (x .second) 64 (omega arith)))
+
+pub good-valid : (l : Listing) → Good l → Valid (network l)
+good-valid l g = valid l (good-range l g)
 
 pub good-set : (xs : List Site) (i : ℕ) (x : Site) → Good (listing xs) → (T (badSite x) → ⊥) → Good (listing (set xs i x))
 good-set xs i x g h j m t =

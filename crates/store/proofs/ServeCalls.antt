@@ -12,14 +12,14 @@ use lib.ListN.{length, getD, set, take, length-map}
 use lib.Seq.{getD-take, take-append-seam}
 use Rattle.sets.proofs.Test.{passes, fails}
 use Rattle.density.specs.declared.Site.{Site}
-use Rattle.density.specs.Network.{Listing, noSite, network}
-use Rattle.density.specs.Rows.{Row, row, firstRow, planRows}
+use Rattle.density.specs.Network.{Listing, noSite}
+use Rattle.density.specs.Rows.{Row, row, firstRow}
 use Rattle.records.specs.declared.Edition.{Edition}
 use Rattle.records.specs.declared.PlanArray.{PlanArray}
 use Rattle.records.specs.declared.Wrote.the-variants as wrote
 use Rattle.records.specs.Values.{Plan, planIn}
 use Rattle.records.specs.Format.{sitesOf, listRows, groupCount, readList, layoutRows, planOf, readPlan}
-use Rattle.records.specs.Outcome.{refused, passed, settle}
+use Rattle.records.specs.Outcome.{refused, passed}
 use Rattle.records.specs.Answer.{filled, planArray}
 use Rattle.records.specs.Write.{planBytes, onto, Written}
 use Rattle.records.proofs.RoundTrip.{list-read, plan-read}
@@ -36,22 +36,14 @@ use Rattle.store.specs.declared.Request.{Request}
 use Rattle.store.specs.declared.Request.the-variants.{Load, Change, Add, Propose, Written as WrittenOut}
 use Rattle.store.specs.declared.Decision.{Decision}
 use Rattle.store.specs.declared.Answer.the-variants as of
-use Rattle.store.specs.Model.{withLitres, rowsOf, missing}
-use Rattle.store.specs.State.{State, listOf, planHeld, corrupt, rows, bare, holding}
-use Rattle.store.specs.Serve.{on, Served}
-use Rattle.store.proofs.Intact.{intact→, listing}
-use Rattle.store.proofs.ServeZero.{good-range}
-use Rattle.store.proofs.ServeRules.{first-of, first-after, Sound, model, call, values, front, held-count, refuses, grants, rows-are}
+use Rattle.store.specs.Model.{withLitres, missing}
+use Rattle.store.specs.State.{State, listOf, planHeld, corrupt, planRow, firstOf, rowFor, refusal, bare}
+use Rattle.store.specs.Serve.{on, takes, Served}
+use Rattle.store.proofs.Plans.{settle-refused, settle-passed}
+use Rattle.store.proofs.Intact.{intact→, listing, good-range}
+use Rattle.store.proofs.ServeRules.{Sound, model, call, values, front, held-count, refuses, grants, row-is}
 
--- ---- what passed or was refused
-
-settle-refused : {A : Type 0} (o : Option ℕ) (a : A) {n : ℕ} → settle o a ≡ refused n → o ≡ some n
-settle-refused none a h = absurd (let z : _≡_ {A = ℕ} 0 1 = cc in omega arith)
-settle-refused (some m) a h = cc
-
-settle-passed : {A : Type 0} (o : Option ℕ) (a : A) {b : A} → settle o a ≡ passed b → (o ≡ none) × (a ≡ b)
-settle-passed none a h = (refl, cc)
-settle-passed (some m) a h = absurd (let z : _≡_ {A = ℕ} 0 1 = cc in omega arith)
+-- ---- verdicts
 
 pub verdict-refused : (o : Option ℕ) (n : ℕ) → verdict o ≡ verdict.Refused n → o ≡ some n
 verdict-refused none n h = absurd (let z : _≡_ {A = ℕ} 0 1 = cc in omega arith)
@@ -79,7 +71,7 @@ module _ (e : Edition) (n : ℕ) (input : List ℕ) (p : Plan) (h : readPlan e n
 pub plan-counted-in : (s : State) → corrupt s ≡ false → (plan : PlanArray) → plan .count ≤ 64 → Counted (record { count = s .store .count; sites = s .table }) plan
 plan-counted-in s h plan l =
     let i = intact→ s h in
-    record { sites = i .few; groups = l; range = good-range (take (s .store .count) (s .table)) (i .good) }
+    record { sites = i .few; groups = l; range = good-range (listOf s) (i .good) }
 
 -- what a writer answered
 wrote-refused : (t : Bool) (a n : ℕ) → wrote.Refused n ≡ cond t (wrote.Length a) (wrote.Refused 20) → (t ≡ false) × (n ≡ 20)
@@ -130,7 +122,7 @@ module _ (e : Edition) (store : Store) (sites : List Site) (places : ℕ) (input
       unfolding firstRow
       change-litres z =
           refuses e store sites places (Change i w) input buffer 6
-          (λ table h k. rows-are e store sites places (Change i w) input buffer s table h k ∙ rw (eq-eqb w 0 z)) r
+          (λ table h k. row-is e store sites places (Change i w) input buffer s table h k ∙ rw (eq-eqb w 0 z)) r
 
       module _ (z : w ≡ 0 → ⊥) where
         pub change-beyond : store .count ≤ i → Refusal 18 → Goes (Change i w) buffer
@@ -138,7 +130,7 @@ module _ (e : Edition) (store : Store) (sites : List Site) (places : ℕ) (input
         change-beyond l =
             refuses e store sites places (Change i w) input buffer 18
             (λ table h k.
-            rows-are e store sites places (Change i w) input buffer s table h k
+            row-is e store sites places (Change i w) input buffer s table h k
             ∙ rw (ne-eqb w 0 z, held-count e store sites places s, le-leb (store .count) i l)) r
 
         pub change-made : i < store .count
@@ -150,7 +142,7 @@ module _ (e : Edition) (store : Store) (sites : List Site) (places : ℕ) (input
             let n : r .n ≡ store .count = ap (λ (x : Decision). x .n) q in
             grants e store sites places (Change i w) input buffer r buffer (omega arith) (omega (arith, s .0))
             (λ table h k.
-            rows-are e store sites places (Change i w) input buffer s table h k
+            row-is e store sites places (Change i w) input buffer s table h k
             ∙ rw (ne-eqb w 0 z, held-count e store sites places s, lt-leb (store .count) i l))
             (λ table h k.
             let f = front e store sites places table h k (store .count) few (s .0) in
@@ -168,14 +160,14 @@ module _ (e : Edition) (store : Store) (sites : List Site) (places : ℕ) (input
       unfolding firstRow
       add-full t =
           refuses e store sites places request input buffer 2
-          (λ table h k. rows-are e store sites places request input buffer s table h k ∙ rw (held-count e store sites places s, t)) r
+          (λ table h k. row-is e store sites places request input buffer s table h k ∙ rw (held-count e store sites places s, t)) r
 
       module _ (t : (leb 512 (store .count) || leb places (store .count)) ≡ false) where
         pub add-depots : (ltb 63 (x .first) || ltb 63 (x .second)) ≡ true → Refusal 5 → Goes request buffer
         unfolding firstRow
         add-depots u =
             refuses e store sites places request input buffer 5
-            (λ table h k. rows-are e store sites places request input buffer s table h k ∙ rw (held-count e store sites places s, t, u)) r
+            (λ table h k. row-is e store sites places request input buffer s table h k ∙ rw (held-count e store sites places s, t, u)) r
 
         module _ (u : (ltb 63 (x .first) || ltb 63 (x .second)) ≡ false) where
           pub add-litres : x .litres ≡ 0 → Refusal 6 → Goes request buffer
@@ -183,7 +175,7 @@ module _ (e : Edition) (store : Store) (sites : List Site) (places : ℕ) (input
           add-litres z =
               refuses e store sites places request input buffer 6
               (λ table h k.
-              rows-are e store sites places request input buffer s table h k ∙ rw (held-count e store sites places s, t, u, eq-eqb (x .litres) 0 z)) r
+              row-is e store sites places request input buffer s table h k ∙ rw (held-count e store sites places s, t, u, eq-eqb (x .litres) 0 z)) r
 
           pub add-made : (x .litres ≡ 0 → ⊥) → store .count < 512 → store .count < places
               → r ≡ record { answer = of.Done; store = bare (store .count + 1); sites = set sites (store .count) x; n = store .count + 1 }
@@ -193,7 +185,7 @@ module _ (e : Edition) (store : Store) (sites : List Site) (places : ℕ) (input
               let n : r .n ≡ store .count + 1 = ap (λ (x : Decision). x .n) q in
               grants e store sites places request input buffer r buffer (omega arith) (omega arith)
               (λ table h k.
-              rows-are e store sites places request input buffer s table h k ∙ rw (held-count e store sites places s, t, u, ne-eqb (x .litres) 0 z))
+              row-is e store sites places request input buffer s table h k ∙ rw (held-count e store sites places s, t, u, ne-eqb (x .litres) 0 z))
               (λ table h k.
               rw (q, overlay-set (store .count + 1) sites table (store .count) x (omega arith) (front e store sites places table h k (store .count + 1) (omega arith) (omega arith))))
 
@@ -204,30 +196,30 @@ module _ (e : Edition) (store : Store) (sites : List Site) (places : ℕ) (input
     propose-layout n h =
         refuses e store sites places Propose input buffer n
         (λ table a k.
-        rows-are e store sites places Propose input buffer s table a k
-        ∙ first-of _ (layoutRows e (length (listOf (values e store sites places) .sites)) input) n
-        (rw (held-count e store sites places s) (settle-refused (firstRow (layoutRows e (store .count) input)) (planOf e (store .count) input) h))) r
+        row-is e store sites places Propose input buffer s table a k
+        ∙ ap (λ (n : ℕ). firstOf (firstRow (layoutRows e n input)) (planRow (model e store sites places) (planOf e n input)))
+        (held-count e store sites places s)
+        ∙ ap (λ (o : Option ℕ). firstOf o (planRow (model e store sites places) (planOf e (store .count) input)))
+        (settle-refused (firstRow (layoutRows e (store .count) input)) (planOf e (store .count) input) h)) r
 
     module _ (p : Plan) (h : readPlan e (store .count) input ≡ passed p) where
       abbrev judged : Option ℕ
-      judged = firstRow (planRows (network (listOf (values e store sites places))) (p .groups) (p .shares))
+      judged = planRow (model e store sites places) p
 
       proposed : (table : List Site) → sites ≡ heldOf noSite table → places ≡ length table
-          → firstRow (rows (on e store table) (call e store sites places Propose input buffer)) ≡ judged
+          → refusal (on e store table) (call e store sites places Propose input buffer) ≡ judged
       unfolding readPlan
       proposed table a k =
           let o = settle-passed (firstRow (layoutRows e (store .count) input)) (planOf e (store .count) input) h in
-          rows-are e store sites places Propose input buffer s table a k
-          ∙ first-after _ (layoutRows e (length (listOf (values e store sites places) .sites)) input)
-          (rw (held-count e store sites places s) (o .0))
-          ∙ ap (λ (n : ℕ). firstRow (planRows (network (listOf (values e store sites places))) (planOf e n input .groups) (planOf e n input .shares)))
+          row-is e store sites places Propose input buffer s table a k
+          ∙ ap (λ (n : ℕ). firstOf (firstRow (layoutRows e n input)) (planRow (model e store sites places) (planOf e n input)))
           (held-count e store sites places s)
-          ∙ ap (λ (q : Plan). firstRow (planRows (network (listOf (values e store sites places))) (q .groups) (q .shares))) (o .1)
+          ∙ ap₂ (λ (o : Option ℕ) (q : Plan). firstOf o (planRow (model e store sites places) q)) (o .0) (o .1)
 
       pub propose-refused : (n : ℕ) → judged ≡ some n → Refusal n → Goes Propose buffer
       propose-refused n j = refuses e store sites places Propose input buffer n (λ table a k. proposed table a k ∙ j) r
 
-      pub propose-passes : judged ≡ none → r ≡ record { answer = of.Done; store = holding (store .count) p; sites = sites; n = 0 } → Goes Propose buffer
+      pub propose-passes : judged ≡ none → r ≡ takes store (planArray p) sites → Goes Propose buffer
       propose-passes j q =
           let n : r .n ≡ 0 = ap (λ (x : Decision). x .n) q in
           grants e store sites places Propose input buffer r buffer (omega arith) (omega arith)
@@ -237,12 +229,13 @@ module _ (e : Edition) (store : Store) (sites : List Site) (places : ℕ) (input
     -- ---- questions: no plan is held
 
     pub wants : (request : Request) (rest : List Row)
-        → rowsOf (model e store sites places) (call e store sites places request input buffer) request ≡ row 17 (missing (model e store sites places .plan)) ∷ rest
+        → rowFor (model e store sites places) (call e store sites places request input buffer) request
+        ≡ firstRow (row 17 (missing (model e store sites places .plan)) ∷ rest)
         → store .held ≡ false → Refusal 17 → Goes request buffer
     unfolding firstRow
     wants request rest q h =
         refuses e store sites places request input buffer 17
-        (λ table a k. rows-are e store sites places request input buffer s table a k ∙ ap firstRow q ∙ rw h) r
+        (λ table a k. row-is e store sites places request input buffer s table a k ∙ q ∙ rw h) r
 
     -- ---- the held plan written out
 
@@ -258,7 +251,7 @@ module _ (e : Edition) (store : Store) (sites : List Site) (places : ℕ) (input
           let same : last ≡ buffer = w .buffer ∙ rw (k .0) in
           subst (Goes WrittenOut) (sym same)
           (refuses e store sites places WrittenOut input buffer n
-          (λ table a b. rows-are e store sites places WrittenOut input buffer s table a b ∙ rw (held, lt-ltb (length buffer) (length bytes) short, k .1)) r q)
+          (λ table a b. row-is e store sites places WrittenOut input buffer s table a b ∙ rw (held, lt-ltb (length buffer) (length bytes) short, k .1)) r q)
 
       pub written-out : (n : ℕ) → Written bytes buffer (wrote.Length n) last → r ≡ record { answer = of.Length n; store = store; sites = sites; n = 0 }
           → Goes WrittenOut last
@@ -269,5 +262,5 @@ module _ (e : Edition) (store : Store) (sites : List Site) (places : ℕ) (input
           let same : last ≡ onto bytes buffer = w .buffer ∙ rw (k .0) in
           let z : r .n ≡ 0 = ap (λ (x : Decision). x .n) q in
           grants e store sites places WrittenOut input buffer r last (omega arith) (omega arith)
-          (λ table a b. rows-are e store sites places WrittenOut input buffer s table a b ∙ rw (held, le-ltb (length buffer) (length bytes) long))
+          (λ table a b. row-is e store sites places WrittenOut input buffer s table a b ∙ rw (held, le-ltb (length buffer) (length bytes) long))
           (λ table a b. rw (q, same, k .1, overlay-none sites table))

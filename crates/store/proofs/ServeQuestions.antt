@@ -29,13 +29,11 @@ use Rattle.store.specs.declared.Decision.{Decision}
 use Rattle.store.specs.declared.Answer.{Answer}
 use Rattle.store.specs.declared.Answer.the-variants as of
 use Rattle.store.specs.Calls.{same, told}
-use Rattle.store.specs.Model.{rowsOf}
-use Rattle.store.specs.State.{State, listOf, planHeld, corrupt, stays, effectOf, litresAt, sizeAt}
+use Rattle.store.specs.State.{State, listOf, planHeld, corrupt, stays, rowFor, effectOf, litresAt, sizeAt}
 use Rattle.store.specs.Serve.{Served}
-use Rattle.store.proofs.Intact.{neither, intact→}
-use Rattle.store.proofs.ServeZero.{good-range}
+use Rattle.store.proofs.Intact.{neither, intact→, good-range}
 use Rattle.store.proofs.ServeCalls.{plan-counted-in}
-use Rattle.store.proofs.ServeRules.{Sound, model, call, values, front, held-count, refuses, grants, rows-are, AtTable}
+use Rattle.store.proofs.ServeRules.{Sound, model, call, values, front, held-count, refuses, grants, row-is, AtTable}
 
 -- what the figures are taken from, where a plan is held
 pub ready-held : (s : State) → corrupt s ≡ false → s .store .held ≡ true → length (s .table) ≡ 512 → length (s .store .groups) ≡ 64
@@ -53,7 +51,7 @@ ready-held s h held wide deep low plan q =
     ready _ _ (plan-counted-in s h _ (i .groups t)) wide deep low (is-false (groupsUnlisted N gs) (c .1)))
 
 pub in-range : (s : State) → corrupt s ≡ false → (s .store .count ≤ 512) × T (depotsInRange (listOf s))
-in-range s h = let i = intact→ s h in (i .few, good-range (take (s .store .count) (s .table)) (i .good))
+in-range s h = let i = intact→ s h in (i .few, good-range (listOf s) (i .good))
 
 -- the answer for a difference
 pub difference-answer : (store : Store) (sites : List Site) (wa qa wb qb wa′ qa′ wb′ qb′ : ℕ) (d : ℤ) → d ≡ differenceOf wa qa wb qb → wa ≡ wa′ → qa ≡ qa′ → wb ≡ wb′ → qb ≡ qb′
@@ -79,13 +77,13 @@ module _ (e : Edition) (store : Store) (sites : List Site) (places : ℕ) (input
   Answered a = r ≡ record { answer = a; store = store; sites = sites; n = 0 }
 
   -- a question leaves the store, the table and the buffer
-  answers : (request : Request) (a : Answer) → firstRow (rowsOf (model e store sites places) (call e store sites places request input buffer) request) ≡ none
+  answers : (request : Request) (a : Answer) → rowFor (model e store sites places) (call e store sites places request input buffer) request ≡ none
       → AtTable e store sites places request input buffer (λ x. stays x (same (call e store sites places request input buffer) (told a)) ≡ effectOf x (call e store sites places request input buffer) request)
       → Answered a → Goes request
   answers request a h g q =
       let z : r .n ≡ 0 = ap (λ (x : Decision). x .n) q in
       grants e store sites places request input buffer r buffer (omega arith) (omega arith)
-      (λ table x y. rows-are e store sites places request input buffer s table x y ∙ h)
+      (λ table x y. row-is e store sites places request input buffer s table x y ∙ h)
       (λ table x y. rw (q, overlay-none sites table) (g table x y))
 
   at-table : (table : List Site) → sites ≡ heldOf noSite table → places ≡ length table → take (store .count) sites ≡ take (store .count) table
@@ -96,7 +94,7 @@ module _ (e : Edition) (store : Store) (sites : List Site) (places : ℕ) (input
     unfolding firstRow
     share-beyond l =
         refuses e store sites places (Share i) input buffer 18
-        (λ table x y. rows-are e store sites places (Share i) input buffer s table x y ∙ rw (held, held-count e store sites places s, le-leb (store .count) i l)) r
+        (λ table x y. row-is e store sites places (Share i) input buffer s table x y ∙ rw (held, held-count e store sites places s, le-leb (store .count) i l)) r
 
     pub share-told : i < store .count → Answered (of.Share (getD (store .shares) i 0) (whole (network (listOf state)) (planHeld state .groups) i)) → Goes (Share i)
     unfolding firstRow
@@ -110,7 +108,7 @@ module _ (e : Edition) (store : Store) (sites : List Site) (places : ℕ) (input
     unfolding firstRow
     depot-unlisted u =
         refuses e store sites places (Depot d) input buffer 19
-        (λ table x y. rows-are e store sites places (Depot d) input buffer s table x y ∙ rw (held, u)) r
+        (λ table x y. row-is e store sites places (Depot d) input buffer s table x y ∙ rw (held, u)) r
 
     pub depot-told : network (listOf state) .listed d ≡ true → Answered (of.Depot (litresAt state d) (sizeAt state d)) → Goes (Depot d)
     unfolding firstRow
@@ -122,14 +120,14 @@ module _ (e : Edition) (store : Store) (sites : List Site) (places : ℕ) (input
     unfolding firstRow
     first-unlisted u =
         refuses e store sites places (Difference a b) input buffer 19
-        (λ table x y. rows-are e store sites places (Difference a b) input buffer s table x y ∙ rw (held, u)) r
+        (λ table x y. row-is e store sites places (Difference a b) input buffer s table x y ∙ rw (held, u)) r
 
     module _ (u : network (listOf state) .listed a ≡ true) where
       pub second-unlisted : network (listOf state) .listed b ≡ false → Refusal 19 → Goes (Difference a b)
       unfolding firstRow
       second-unlisted v =
           refuses e store sites places (Difference a b) input buffer 19
-          (λ table x y. rows-are e store sites places (Difference a b) input buffer s table x y ∙ rw (held, u, v)) r
+          (λ table x y. row-is e store sites places (Difference a b) input buffer s table x y ∙ rw (held, u, v)) r
 
       pub difference-told : network (listOf state) .listed b ≡ true
           → Answered (of.Difference (differenceOf (litresAt state a) (sizeAt state a) (litresAt state b) (sizeAt state b)) (sizeAt state a * sizeAt state b)) → Goes (Difference a b)

@@ -1,8 +1,8 @@
 -- From the values that stand for the table to the step: row 0, one law for a refusal and one for what is granted. Assumes nothing.
-use mathlib.Core.Path.{_≡_, refl, sym, ap, ap₂, _∙_, subst}
+use mathlib.Core.Path.{_≡_, sym, ap, ap₂, _∙_, subst}
 use mathlib.Core.Logic.{⊎-elim}
 use mathlib.Core.Bool.{Bool, true, false, cond, _&&_, _||_, and-false}
-use mathlib.Core.List.{List, [], _∷_, _++_}
+use mathlib.Core.List.{List}
 use mathlib.Core.Option.{none, some}
 use Prim.Native.Nat.{ℕ, _≤_, zero-le}
 use native.Mathlib.Omega.{arith}
@@ -11,7 +11,6 @@ use lib.ListN.{length, take}
 use Rattle.sets.proofs.Test.{or-l, or-r, or-cases, and-l, and-r, T?, T-ext, is-true, is-false, passes, fails}
 use Rattle.density.specs.declared.Site.{Site}
 use Rattle.density.specs.Network.{noSite}
-use Rattle.density.specs.Rows.{Row, row, firstRow}
 use Rattle.records.specs.declared.Edition.{Edition}
 use Rattle.records.proofs.Outcomes.{or-false}
 use Rattle.table.specs.Table.{heldOf}
@@ -21,25 +20,10 @@ use Rattle.store.specs.declared.Request.{Request}
 use Rattle.store.specs.declared.Decision.{Decision}
 use Rattle.store.specs.declared.Answer.the-variants as of
 use Rattle.store.specs.Calls.{Call}
-use Rattle.store.specs.Model.{Model, rowsOf}
-use Rattle.store.specs.State.{State, listOf, planHeld, modelOf, badPlan, corrupt, triesZero, rows, effectOf, step}
+use Rattle.store.specs.Model.{Model}
+use Rattle.store.specs.State.{State, listOf, planHeld, modelOf, badPlan, corrupt, triesZero, rowFor, refusal, effectOf, step}
 use Rattle.store.specs.Serve.{on, decided, Served}
 use Rattle.store.proofs.Intact.{Good, listing, Intact, intact→, →intact, sized}
-
--- ---- rows behind rows
-
-module _ (ys : List Row) where
-  pub first-of : (xs : List Row) (n : ℕ) → firstRow xs ≡ some n → firstRow (xs ++ ys) ≡ some n
-  unfolding firstRow
-  first-of [] n e = absurd (let z : _≡_ {A = ℕ} 0 1 = cc in omega arith)
-  first-of (row m true ∷ xs) n e = e
-  first-of (row m false ∷ xs) n e = first-of xs n e
-
-  pub first-after : (xs : List Row) → firstRow xs ≡ none → firstRow (xs ++ ys) ≡ firstRow ys
-  unfolding firstRow
-  first-after [] e = refl
-  first-after (row m true ∷ xs) e = absurd (let z : _≡_ {A = ℕ} 0 1 = cc in omega arith)
-  first-after (row m false ∷ xs) e = first-after xs e
 
 module _ (e : Edition) (store : Store) (sites : List Site) (places : ℕ) where
   -- the state with the values in place of the table, and its model with the table's places
@@ -131,20 +115,19 @@ module _ (e : Edition) (store : Store) (sites : List Site) (places : ℕ) where
     AtTable P = (table : List Site) → sites ≡ heldOf noSite table → places ≡ length table → P (on e store table)
 
     -- a refusal leaves the store, the table and the buffer
-    pub refuses : (n : ℕ) → AtTable (λ s. firstRow (rows s call) ≡ some n) → (r : Decision)
+    pub refuses : (n : ℕ) → AtTable (λ s. refusal s call ≡ some n) → (r : Decision)
         → r ≡ record { answer = of.Refused n; store = store; sites = sites; n = 0 } → Served e store sites places request input buffer r buffer
     refuses n f r q =
         subst (λ (r : Decision). Served e store sites places request input buffer r buffer) (sym q)
         (record { steps = λ table h k. rw (f table h k, overlay-none sites table); few = zero-le; room = zero-le })
 
     -- what no row refuses
-    pub grants : (r : Decision) (last : List ℕ) → r .n ≤ 512 → r .n ≤ places → AtTable (λ s. firstRow (rows s call) ≡ none)
+    pub grants : (r : Decision) (last : List ℕ) → r .n ≤ 512 → r .n ≤ places → AtTable (λ s. refusal s call ≡ none)
         → AtTable (λ s. decided s r last ≡ effectOf s call request) → Served e store sites places request input buffer r last
     grants r last few room f g = record { steps = λ table h k. g table h k ∙ rw (f table h k); few = few; room = room }
 
     -- row 0 refuses
-    pub zero-refuses : triesZero request ≡ true → (ltb places (store .count) || corrupt values) ≡ true → AtTable (λ s. firstRow (rows s call) ≡ some 0)
-    unfolding firstRow
+    pub zero-refuses : triesZero request ≡ true → (ltb places (store .count) || corrupt values) ≡ true → AtTable (λ s. refusal s call ≡ some 0)
     zero-refuses t z table h k = rw (t, ← (zero-is table h k), z)
 
     pub zero-served : (triesZero request && (ltb places (store .count) || corrupt values)) ≡ true → (r : Decision)
@@ -154,7 +137,6 @@ module _ (e : Edition) (store : Store) (sites : List Site) (places : ℕ) where
         let b = passes (triesZero request && z) t in
         refuses 0 (zero-refuses (is-true (triesZero request) (and-l (triesZero request) z b)) (is-true z (and-r (triesZero request) z b))) r q
 
-    -- the rows of a call by the values
-    pub rows-are : Sound → AtTable (λ s. firstRow (rows s call) ≡ firstRow (rowsOf model call request))
-    unfolding firstRow
-    rows-are s table h k = rw (not-zero table h k s, and-false (triesZero request), same-model table h k s)
+    -- the row for a call by the values
+    pub row-is : Sound → AtTable (λ s. refusal s call ≡ rowFor model call request)
+    row-is s table h k = rw (not-zero table h k s, and-false (triesZero request), same-model table h k s)

@@ -6,14 +6,14 @@ use mathlib.Core.Option.{none, some}
 use Prim.Native.Nat.{ℕ, _≤_, _<_}
 use native.Mathlib.Omega.{arith}
 use borrow.Author.Tests.{lt-ltb, le-ltb}
-use lib.Dec.{T, eqb, ltb, lt→ltb, nltb→le, not-T}
+use lib.Dec.{ltb}
 use lib.ListN.{length, getD, take}
 use lib.Seq.{getD-take, length-take-le}
 use Rattle.sets.specs.Sum.{any}
-use Rattle.sets.proofs.Test.{and-i, fails}
-use Rattle.sets.proofs.Sum.{any-from, any-cong, all-from}
+use Rattle.sets.proofs.Test.{fails}
+use Rattle.sets.proofs.Sum.{any-from, any-cong}
 use Rattle.density.specs.declared.Site.{Site}
-use Rattle.density.specs.Network.{Network, noSite, siteAt, depotsInRange}
+use Rattle.density.specs.Network.{Network, noSite, siteAt}
 use Rattle.density.specs.Rows.{firstRow, planRows, groupsMeet, groupsUnlisted, sharesBroken}
 use Rattle.records.specs.declared.Edition.{Edition}
 use Rattle.records.specs.declared.PlanArray.{PlanArray}
@@ -23,7 +23,7 @@ use Rattle.verify.specs.Tables.{Counted}
 use Rattle.store.specs.declared.Store.{Store}
 use Rattle.store.specs.State.{State, listOf, planHeld, badSite, badPlan, corrupt}
 use Rattle.store.specs.Serve.{on}
-use Rattle.store.proofs.Intact.{neither, Good, listing}
+use Rattle.store.proofs.Intact.{listing, good-range}
 
 -- ---- a verdict on the form
 
@@ -48,18 +48,7 @@ module _ (N : Network) (gs ss : List ℕ) where
   unfolding firstRow planRows
   form-good e = nothing (groupsMeet gs) (groupsUnlisted N gs) (sharesBroken N gs ss) e
 
--- ---- depots in range
-
-pub good-range : (xs : List Site) → Good (listing xs) → T (depotsInRange (listing xs))
-unfolding depotsInRange
-good-range xs g =
-    all-from (λ i. ltb (siteAt (listing xs) i .first) 64 && ltb (siteAt (listing xs) i .second) 64) (length xs) (λ i m.
-    let x = siteAt (listing xs) i in
-    let h = neither (ltb 63 (x .first) || ltb 63 (x .second)) (eqb (x .litres) 0) (g i m) .0 in
-    let k = neither (ltb 63 (x .first)) (ltb 63 (x .second)) h in
-    let a : x .first ≤ 63 = nltb→le 63 (x .first) (not-T (ltb 63 (x .first)) (k .0)) in
-    let b : x .second ≤ 63 = nltb→le 63 (x .second) (not-T (ltb 63 (x .second)) (k .1)) in
-    and-i (ltb (x .first) 64) (ltb (x .second) 64) (lt→ltb (x .first) 64 (omega arith)) (lt→ltb (x .second) 64 (omega arith)))
+-- ---- the tests
 
 module _ (store : Store) (sites : List Site) (places : ℕ) (wide : length sites ≡ 512) where
   abbrev bad : ℕ → Bool
@@ -73,7 +62,7 @@ module _ (store : Store) (sites : List Site) (places : ℕ) (wide : length sites
       record {
         sites = few;
         groups = l;
-        range = good-range (take (store .count) sites)
+        range = good-range (listing (take (store .count) sites))
             (λ i m t.
             let n : i < store .count = omega arith in
             fails (any bad (store .count)) b (any-from bad (store .count) i n (rw (getD-take (store .count) sites i noSite n) at t)));

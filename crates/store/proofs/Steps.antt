@@ -1,6 +1,6 @@
 -- Each step of the store is one of the model: what a state holds stays the model's. Assumes nothing.
 use mathlib.Core.Path.{_≡_, refl, sym, ap, ap₂, _∙_, subst}
-use mathlib.Core.Logic.{inl, inr}
+use mathlib.Core.Logic.{_↔_, inl, inr}
 use mathlib.Core.Bool.{Bool, true, false, cond, _&&_, _||_, true≢false, false≢true}
 use mathlib.Core.List.{List, [], _∷_, _++_}
 use mathlib.Core.Option.{Option, none, some, Option·none-ne-some}
@@ -29,10 +29,10 @@ use Rattle.store.specs.declared.Request.{Request}
 use Rattle.store.specs.declared.Request.the-variants.{Load, Change, Add, Propose, Share, Depot, Difference, Written}
 use Rattle.store.specs.Calls.{Call, Reply, same, refused, done, shared, loaded, differ, wrote}
 use Rattle.judge.specs.Check.{True}
-use Rattle.store.specs.Model.{Model, Says, listed, planned, missing, held, rowsOf, modelRows, proposalRows, withLitres, grantOf, settled, turned, turn}
-use Rattle.store.specs.State.{State, Done, listOf, planHeld, modelOf, badPlan, corrupt, triesZero, bare, fresh, holding, next, stays, litresAt, sizeAt, effectOf, rows, settle, step}
+use Rattle.store.specs.Model.{Model, Says, listed, planned, missing, held, count, rowsOf, modelRows, proposalRows, withLitres, grantOf, settled, turned, turn}
+use Rattle.store.specs.State.{State, Done, listOf, planHeld, modelOf, badPlan, corrupt, triesZero, bare, fresh, holding, next, stays, litresAt, sizeAt, effectOf, rowFor, refusal, settle, step}
 use Rattle.store.specs.Trace.{Steps, Tidy}
-use Rattle.store.proofs.Rules.{none-both}
+use Rattle.store.proofs.Rules.{none-both, first-both, never-row-zero, granted-not-refused, zero-answer}
 use Rattle.store.proofs.Plans.{formed, true-of-rows, rows-of-true}
 use Rattle.store.proofs.Intact.{neither, or-not, Good, listing, good-valid, good-set, good-add, good-litres, read-list, Intact, sized, intact→, →intact}
 
@@ -51,6 +51,20 @@ pub record Kept (s : State) (c : Call) (d : Done) : Type 0 where
   pub holds : Holds (d .after)
   pub edition : d .after .edition ≡ s .edition
   pub places : length (d .after .table) ≡ length (s .table)
+
+-- ---- a store's row for a call is the model's
+
+pub row-model : (b : Model) (c : Call) (q : Request) → rowFor b c q ≡ firstRow (rowsOf b c q)
+row-model b c Load = refl
+row-model b c (Change i w) = refl
+row-model b c (Add x y w) = refl
+row-model b c Propose =
+    let p = planOf (b .edition) (count b) (c .input) in
+    first-both (planRows (network (b .list)) (p .groups) (p .shares)) (layoutRows (b .edition) (count b) (c .input))
+row-model b c (Share i) = refl
+row-model b c (Depot d) = refl
+row-model b c (Difference a d) = refl
+row-model b c Written = refl
 
 -- ---- a state without a plan
 
@@ -154,9 +168,9 @@ module _ (s : State) (h : Holds s) (input buffer : List ℕ) where
 
   -- a proposal that is true
   accepted : (p : Plan) → True (s .edition) (listOf s) p input → (T (badPlan (listOf s) p) → ⊥)
-      → Kept s (call Propose) (next s (holding n p) (s .table) (same (call Propose) done))
+      → Kept s (call Propose) (next s (holding (s .store) p) (s .table) (same (call Propose) done))
   accepted p t clear =
-      let after : State = record { edition = s .edition; store = holding n p; table = s .table } in
+      let after : State = record { edition = s .edition; store = holding (s .store) p; table = s .table } in
       let each : length (p .shares) ≡ n = t .layout .each ∙ size in
       let plan : planHeld after ≡ p =
       ap₂ (λ (g x : List ℕ). record { groups = g; shares = x }) (take-append-seam (p .groups) (replicate (64 - length (p .groups)) 0))
@@ -235,7 +249,7 @@ module _ (s : State) (h : Holds s) (input buffer : List ℕ) where
       (good-add (listOf s .sites) z (parts .good) (or-not (ltb 63 x || ltb 63 y) (eqb w 0) (c .1 .0) (c .1 .1 .0)))
       (sym (turn-granted b (call (Add x y w)) e))
   granted Propose f e =
-      subst (λ (k : ℕ). Kept s (call Propose) (next s (holding n (planOf (s .edition) k input)) (s .table) (same (call Propose) done))) size
+      subst (λ (k : ℕ). Kept s (call Propose) (next s (holding (s .store) (planOf (s .edition) k input)) (s .table) (same (call Propose) done))) size
       (accepted (planOf (s .edition) (length (listOf s .sites)) input) (true-of-rows (s .edition) (listOf s) ok input f e)
       (plan-clear (s .edition) (listOf s) input e))
   granted (Share i) f e =
@@ -285,9 +299,8 @@ module _ (s : State) (h : Holds s) (input buffer : List ℕ) where
   decided m q f (some k) e = refuses m q k e
 
 -- no row 0 where a state is not corrupt
-pub row-zero-off : (s : State) (c : Call) → corrupt s ≡ false → firstRow (rows s c) ≡ firstRow (modelRows (modelOf s) c)
-unfolding firstRow
-row-zero-off s c e = off (triesZero (c .request)) (corrupt s) (firstRow (modelRows (modelOf s) c)) e
+pub row-zero-off : (s : State) (c : Call) → corrupt s ≡ false → refusal s c ≡ firstRow (modelRows (modelOf s) c)
+row-zero-off s c e = off (triesZero (c .request)) (corrupt s) (rowFor (modelOf s) c (c .request)) e ∙ row-model (modelOf s) c (c .request)
   where
     off : (x y : Bool) (o : Option ℕ) → y ≡ false → cond (x && y) (some 0) o ≡ o
     off false y o h = refl
@@ -303,3 +316,28 @@ module _ (s : State) (c : Call) (m : Marked (s .edition)) (h : Holds s) (f : Fed
 
   pub kept : (r : Reply) (s' : State) → Steps s c r s' → Kept s c (record { after = s'; reply = r })
   kept r s' x = subst (λ (d : Done). Kept s c d) (sym x) keeps
+
+-- ---- row 0 at any state
+
+zero-is : (s : State) (c : Call) (r : Reply) (s' : State) → Steps s c r s' → (r .answer ≡ refused 0) ↔ (triesZero (c .request) && corrupt s ≡ true)
+zero-is s c r s' x =
+    let e : r .answer ≡ step s c .reply .answer = ap (λ (d : Done). d .reply .answer) x in
+    let h = zero-answer s c (effectOf s c (c .request)) (triesZero (c .request) && corrupt s) (rowFor (modelOf s) c (c .request))
+    (λ z. never-row-zero (modelOf s) c (c .request) (sym (row-model (modelOf s) c (c .request)) ∙ z)) (granted-not-refused s c (c .request) 0) in
+    (λ a. h .0 (sym e ∙ a), λ a. e ∙ h .1 a)
+
+-- A call that tries row 0 is refused by it exactly if the state is corrupt.
+pub row-zero : (s : State) (c : Call) (r : Reply) (s' : State) → triesZero (c .request) ≡ true → Steps s c r s'
+    → (r .answer ≡ refused 0) ↔ (corrupt s ≡ true)
+row-zero s c r s' t x = let h = zero-is s c r s' x in (λ e. rw t at (h .0 e), λ e. h .1 (rw t e))
+
+-- Load never is, and no call where the state is not corrupt.
+pub load-not-zero : (s : State) (c : Call) (r : Reply) (s' : State) → c .request ≡ Load → Steps s c r s' → r .answer ≡ refused 0 → ⊥
+load-not-zero s c r s' t x e = false≢true (rw t at (zero-is s c r s' x .0 e))
+
+pub not-zero : (s : State) (c : Call) (r : Reply) (s' : State) → corrupt s ≡ false → Steps s c r s' → r .answer ≡ refused 0 → ⊥
+not-zero s c r s' h x e = false≢true (sym h ∙ second (triesZero (c .request)) (corrupt s) (zero-is s c r s' x .0 e))
+  where
+    second : (a b : Bool) → a && b ≡ true → b ≡ true
+    second true b k = k
+    second false b k = absurd (false≢true k)

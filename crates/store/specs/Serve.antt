@@ -1,16 +1,19 @@
 -- What covered functions are given in place of the lent table, its first 512 places by value and how many places it has, and what their decision
 -- does to it.
 use mathlib.Core.Path.{_≡_}
+use mathlib.Core.Bool.{true}
 use mathlib.Core.List.{List}
 use Prim.Native.Nat.{ℕ, _≤_}
 use lib.ListN.{length}
 use Rattle.density.specs.declared.Site.{Site}
 use Rattle.density.specs.Network.{noSite}
 use Rattle.records.specs.declared.Edition.{Edition}
+use Rattle.records.specs.declared.PlanArray.{PlanArray}
 use Rattle.table.specs.Table.{overlay, heldOf}
 use Rattle.store.specs.declared.Store.{Store}
 use Rattle.store.specs.declared.Request.{Request}
 use Rattle.store.specs.declared.Decision.{Decision}
+use Rattle.store.specs.declared.Answer.the-variants as of
 use Rattle.store.specs.Calls.{told}
 use Rattle.store.specs.State.{State, Done, step}
 
@@ -23,6 +26,16 @@ decided s r buffer =
     record {
       after = on (s .edition) (r .store) (overlay (r .n) (r .sites) (s .table));
       reply = record { answer = told (r .answer); buffer = buffer };
+    }
+
+-- a plan that passed is held
+abbrev pub takes : Store → PlanArray → List Site → Decision
+takes s p sites =
+    record {
+      answer = of.Done;
+      store = record { count = s .count; held = true; grouped = p .count; groups = p .groups; shares = p .shares };
+      sites = sites;
+      n = 0;
     }
 
 -- the decision is the step, whatever table the sites were taken from

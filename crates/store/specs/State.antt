@@ -1,6 +1,6 @@
 -- Document 01, "Entry points", the desk: what is held, and what each call does at any desk and table.
 use mathlib.Core.Bool.{Bool, true, false, cond, _&&_, _||_}
-use mathlib.Core.List.{List, _∷_, _++_}
+use mathlib.Core.List.{List, _++_}
 use mathlib.Core.Option.{Option, none, some}
 use Prim.Native.Nat.{ℕ, _+_, _*_}
 use lib.Dec.{eqb, ltb}
@@ -9,18 +9,18 @@ use Rattle.sets.specs.Sum.{any}
 use Rattle.density.specs.declared.Site.{Site}
 use Rattle.density.specs.Network.{Listing, network, siteAt}
 use Rattle.density.specs.Plan.{place, groupLitres, groupSize, whole}
-use Rattle.density.specs.Rows.{Row, row, firstRow, groupsMeet, groupsUnlisted, sharesBroken}
+use Rattle.density.specs.Rows.{firstRow, groupsMeet, groupsUnlisted, sharesBroken, planRows}
 use Rattle.density.specs.Figures.{differenceOf}
 use Rattle.records.specs.declared.Edition.{Edition}
 use Rattle.records.specs.Values.{Plan}
 use Rattle.records.specs.Answer.{filled}
-use Rattle.records.specs.Format.{sitesOf, planOf}
+use Rattle.records.specs.Format.{sitesOf, layoutRows, planOf}
 use Rattle.records.specs.Write.{planBytes, onto}
 use Rattle.store.specs.declared.Store.{Store}
 use Rattle.store.specs.declared.Request.{Request}
 use Rattle.store.specs.declared.Request.the-variants.{Load, Change, Add, Propose, Share, Depot, Difference, Written}
 use Rattle.store.specs.Calls.{Call, Reply, same, refused, done, shared, loaded, differ, wrote}
-use Rattle.store.specs.Model.{Model, held, rowsOf, withLitres}
+use Rattle.store.specs.Model.{Model, count, rowsOf, withLitres}
 
 -- The desk (store) of an edition, and the table that it is lent.
 pub record State : Type 0 where
@@ -65,8 +65,27 @@ triesZero (Depot d) = true
 triesZero (Difference a d) = true
 triesZero Written = true
 
-abbrev pub rows : State → Call → List Row
-rows s c = row 0 (triesZero (c .request) && corrupt s) ∷ rowsOf (modelOf s) c (c .request)
+-- Propose: the first of rows 12 to 16 that applies to a plan for the held list
+abbrev pub planRow : Model → Plan → Option ℕ
+planRow b p = firstRow (planRows (network (b .list)) (p .groups) (p .shares))
+
+abbrev pub firstOf : Option ℕ → Option ℕ → Option ℕ
+firstOf (some n) o = some n
+firstOf none o = o
+
+-- The first row that applies of those that a call tries: a proposal's of its layout, then of the plan laid out.
+abbrev pub rowFor : Model → Call → Request → Option ℕ
+rowFor b c Load = firstRow (rowsOf b c Load)
+rowFor b c (Change i w) = firstRow (rowsOf b c (Change i w))
+rowFor b c (Add f s w) = firstRow (rowsOf b c (Add f s w))
+rowFor b c Propose = firstOf (firstRow (layoutRows (b .edition) (count b) (c .input))) (planRow b (planOf (b .edition) (count b) (c .input)))
+rowFor b c (Share i) = firstRow (rowsOf b c (Share i))
+rowFor b c (Depot d) = firstRow (rowsOf b c (Depot d))
+rowFor b c (Difference a d) = firstRow (rowsOf b c (Difference a d))
+rowFor b c Written = firstRow (rowsOf b c Written)
+
+abbrev pub refusal : State → Call → Option ℕ
+refusal s c = cond (triesZero (c .request) && corrupt s) (some 0) (rowFor (modelOf s) c (c .request))
 
 -- "A fresh desk has no sites, no plan, and 512 places for shares, all zero. Its 64 places for groups are zero too."
 abbrev pub bare : ℕ → Store
@@ -76,9 +95,9 @@ abbrev pub fresh : Edition → List Site → State
 fresh e table = record { edition = e; store = bare 0; table = table }
 
 -- "a plan that passes for the held list becomes the held plan, and group and share places beyond it become zero"
-abbrev pub holding : ℕ → Plan → Store
-holding n p =
-    record { count = n; held = true; grouped = length (p .groups); groups = filled 64 (p .groups) 0; shares = filled 512 (p .shares) 0 }
+abbrev pub holding : Store → Plan → Store
+holding s p =
+    record { count = s .count; held = true; grouped = length (p .groups); groups = filled 64 (p .groups) 0; shares = filled 512 (p .shares) 0 }
 
 -- The state after a call, and its reply.
 pub record Done : Type 0 where
@@ -107,7 +126,7 @@ effectOf s c Load =
 effectOf s c (Change i w) = next s (bare (s .store .count)) (set (s .table) i (withLitres (siteAt (listOf s) i) w)) (same c done)
 effectOf s c (Add f d w) =
     next s (bare (s .store .count + 1)) (set (s .table) (s .store .count) (record { first = f; second = d; litres = w })) (same c done)
-effectOf s c Propose = next s (holding (s .store .count) (planOf (s .edition) (s .store .count) (c .input))) (s .table) (same c done)
+effectOf s c Propose = next s (holding (s .store) (planOf (s .edition) (s .store .count) (c .input))) (s .table) (same c done)
 effectOf s c (Share i) = stays s (same c (shared (getD (s .store .shares) i 0) (whole (network (listOf s)) (planHeld s .groups) i)))
 effectOf s c (Depot d) = stays s (same c (loaded (litresAt s d) (sizeAt s d)))
 effectOf s c (Difference a d) =
@@ -122,4 +141,4 @@ settle (some n) s c d = stays s (same c (refused n))
 settle none s c d = d
 
 abbrev pub step : State → Call → Done
-step s c = settle (firstRow (rows s c)) s c (effectOf s c (c .request))
+step s c = settle (refusal s c) s c (effectOf s c (c .request))

@@ -26,8 +26,9 @@ ghost use Rattle.store.specs.declared.Answer.the-variants as answer;
 ghost use Rattle.store.specs.declared.Request.the-variants as request;
 ghost use Rattle.records.specs.Values.{listing, planIn};
 ghost use Rattle.verify.specs.Tables.{net, groupsIn, Counted, Ready};
-ghost use Rattle.store.specs.State.{badSite, badPlan, corrupt, triesZero, bare};
-ghost use Rattle.store.specs.Serve.{on, Served};
+ghost use Rattle.verify.specs.Verdict.{verdict};
+ghost use Rattle.store.specs.State.{modelOf, badSite, badPlan, corrupt, triesZero, planRow, bare};
+ghost use Rattle.store.specs.Serve.{on, takes, Served};
 
 // A refusal: nothing changes.
 fn refuse(store: Store, sites: [Site; 512], n: u8) -> Decision
@@ -195,13 +196,13 @@ fn load(e: Edition, store: Store, sites: [Site; 512], places: usize, input: &[u8
 }
 
 // The plan becomes the one held.
-fn with_plan(count: usize, plan: PlanArray, sites: [Site; 512]) -> Decision
-    ensures { λ r. ⌜ r ≡ record { answer = answer.Done; store = record { count = count; held = true; grouped = plan .count; groups = plan .groups; shares = plan .shares }; sites = sites; n = 0 } ⌝ }
+fn with_plan(store: Store, plan: PlanArray, sites: [Site; 512]) -> Decision
+    ensures { λ r. ⌜ r ≡ takes store plan sites ⌝ }
 {
     let groups = plan.groups;
     let shares = plan.shares;
-    let store = Store {
-        count,
+    let next = Store {
+        count: store.count,
         held: true,
         grouped: plan.count,
         groups,
@@ -209,10 +210,20 @@ fn with_plan(count: usize, plan: PlanArray, sites: [Site; 512]) -> Decision
     };
     Decision {
         answer: Answer::Done,
-        store,
+        store: next,
         sites,
         n: 0,
     }
+}
+
+// The verdict on a plan for the list held.
+fn judged(store: Store, sites: [Site; 512], plan: PlanArray) -> Verdict
+    requires { ⌜ Counted (record { count = store .count; sites = sites }) plan ⌝ }
+    ensures { λ r. ⌜ ((e : Edition) → r ≡ verdict (planRow (modelOf (on e store sites)) (planIn plan (store .count)))) ⌝ }
+{
+    let count = store.count;
+    let list = ListArray { count, sites };
+    verify::plan_row(list, plan)
 }
 
 // A plan that passes becomes the one held.
@@ -227,12 +238,11 @@ fn propose(e: Edition, store: Store, sites: [Site; 512], input: &[u8]) -> Decisi
     if let Read::Refused(n) = answer {
         return refuse(store, sites, n);
     }
-    let list = ListArray { count, sites };
-    let verdict = verify::plan_row(list, plan);
+    let verdict = judged(store, sites, plan);
     if let Verdict::Refused(n) = verdict {
         return refuse(store, sites, n);
     }
-    with_plan(count, plan, sites)
+    with_plan(store, plan, sites)
 }
 
 // The plan held, written out.

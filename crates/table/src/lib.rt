@@ -2,10 +2,10 @@
 // A lent table is narrow by type: that of edition 1 has sites with two-byte litres.
 ghost use mathlib.Core.Path.{_≡_};
 ghost use mathlib.Core.List.{map};
-ghost use Prim.Native.Nat.{_<_, _≤_, _^_, min};
+ghost use Prim.Native.Nat.{_<_, _≤_, min};
 ghost use lib.ListN.{length, getD, set};
 ghost use Rattle.table.specs.Table.{overlay, heldOf};
-ghost use Rattle.table.specs.Widths.{noSite1, widened, narrowed, LitresFit};
+ghost use Rattle.table.specs.Widths.{noSite1, widened, LitresFit};
 use density::Site;
 
 pub mod values;
@@ -95,18 +95,6 @@ pub fn widen(s: Site1) -> Site
     }
 }
 
-// A site as edition 1 has it.
-pub fn narrow(s: Site) -> Site1
-    requires { ⌜ s .litres < 2 ^ 16 ⌝ }
-    ensures { λ r. ⌜ r ≡ narrowed s ⌝ }
-{
-    Site1 {
-        first: s.first,
-        second: s.second,
-        litres: s.litres as u16,
-    }
-}
-
 // The 512 places wide, each as `widen` has it.
 pub fn widen_all(sites: [Site1; 512]) -> [Site; 512]
     ensures { λ r. ⌜ (r ≡ map widened sites) × LitresFit r ⌝ }
@@ -119,24 +107,6 @@ pub fn widen_all(sites: [Site1; 512]) -> [Site; 512]
     let mut i: usize = 0;
     while i < 512 {
         a[i] = widen(sites[i]);
-        i += 1;
-    }
-    a
-}
-
-// The 512 places narrow, each as `narrow` has it.
-pub fn narrow_all(sites: [Site; 512]) -> [Site1; 512]
-    requires { ⌜ LitresFit sites ⌝ }
-    ensures { λ r. ⌜ r ≡ map narrowed sites ⌝ }
-{
-    let mut a = [Site1 {
-        first: 0,
-        second: 0,
-        litres: 0,
-    }; 512];
-    let mut i: usize = 0;
-    while i < 512 {
-        a[i] = narrow(sites[i]);
         i += 1;
     }
     a

@@ -2,6 +2,7 @@
 use native.Mathlib.Omega.{arith}
 use borrow.Author.Needs.{needs}
 use denote.Ref.{now}
+use Rattle.maker.specs.Planned.{Planned}
 use Rattle.maker.proofs.Made.{in-range, few-sites, made, refusal-made}
 use Rattle.maker.proofs.make_by.Statement.{statement}
 use Rattle.maker.proofs.make_by.Tie as tie
@@ -32,7 +33,8 @@ make-plan-requires c κs =
 plan-requires : tie.Need-plan-requires
 plan-requires c κs =
     let a = c .before .before .before .before .before .before .before .before .before .args in
-    (c .before .before .before .before .before .before .before .before .before .pre .1, c .before .make-plan .ensures .few, omega (arith, few-sites (a .e) (now (a .list)) (c .before .before .before .before .before .before .read .result) (c .before .before .before .before .answer .given .0 .0) (c .before .before .before .before .before .before .read .ensures) (c .before .before .before .before .answer .given .1)))
+    let plan : Planned _ _ = c .before .make-plan .ensures in
+    (c .before .before .before .before .before .before .before .before .before .pre .1, plan .few, omega (arith, few-sites (a .e) (now (a .list)) (c .before .before .before .before .before .before .read .result) (c .before .before .before .before .answer .given .0 .0) (c .before .before .before .before .before .before .read .ensures) (c .before .before .before .before .answer .given .1)))
 
 same-length : tie.Need-same-length
 same-length c = search needs

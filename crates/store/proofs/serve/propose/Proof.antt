@@ -1,19 +1,15 @@
 -- `store::serve::propose` meets its contract. Assumes nothing.
 use mathlib.Core.Path.{sym, ap, _∙_}
-use Rattle.density.specs.Network.{network}
-use Rattle.density.specs.Rows.{firstRow, planRows}
 use Rattle.records.specs.declared.PlanArray.{PlanArray}
 use Rattle.records.specs.declared.PlanRead.{PlanRead}
 use Rattle.records.specs.Values.{Plan}
 use Rattle.records.specs.Format.{readPlan}
 use Rattle.records.proofs.Answers.{plan-counted, plan-refused}
 use Rattle.verify.specs.Verdict.{verdict}
-use Rattle.store.specs.declared.Answer.the-variants as of
-use Rattle.store.specs.State.{listOf}
-use Rattle.store.specs.Serve.{on}
+use Rattle.store.specs.State.{modelOf, planRow}
+use Rattle.store.specs.Serve.{on, takes}
 use Rattle.store.proofs.Intact.{intact→}
 use Rattle.store.proofs.ServeCalls.{plan-few, plan-in, plan-counted-in, verdict-refused, verdict-passes, propose-layout, propose-refused, propose-passes}
-use mathlib.Core.Bool.{true}
 use borrow.Author.Needs.{needs}
 use Rattle.store.proofs.serve.propose.Statement.{statement}
 use Rattle.store.proofs.serve.propose.Tie as tie
@@ -36,8 +32,8 @@ returns c = λ places buffer room.
 enum-told : tie.Need-enum-told
 enum-told c = search needs
 
-plan-row-requires : tie.Need-plan-row-requires
-plan-row-requires c κs = let s = c .before .before .before .before .before in
+judged-requires : tie.Need-judged-requires
+judged-requires c κs = let s = c .before .before .before .before .before in
     let o = readPlan (s .args .e) (s .args .store .count) (s .args .input .now) in
     let l = plan-counted o (sym (c .enum-told .given .1) ∙ ap (λ (x : PlanRead). x .answer) (c .before .before .before .read .ensures)) in
     let q = ap (λ (x : PlanRead). x .plan) (c .before .before .before .read .ensures) ∙ l .3 in
@@ -57,7 +53,7 @@ returns-2 c = λ places buffer room.
     let l = plan-counted o (sym (c .before .before .before .before .before .enum-told .given .1) ∙ ap (λ (x : PlanRead). x .answer) (c .before .before .before .before .before .before .before .before .read .ensures)) in
     let q = ap (λ (x : PlanRead). x .plan) (c .before .before .before .before .before .before .before .before .read .ensures) ∙ l .3 in
     let k = plan-in (s .args .e) (s .args .store .count) (s .args .input .now) (l .0) (l .1) _ q in
-    propose-refused (s .args .e) (s .args .store) (s .args .sites) places (s .args .input .now) buffer _ (room, s .pre .1) (l .0) (l .1) _ (verdict-refused _ _ (sym (ap (λ (x : Plan). verdict (firstRow (planRows (network (listOf (on (s .args .e) (s .args .store) (s .args .sites)))) (x .groups) (x .shares)))) k) ∙ sym (c .before .before .before .before .plan-row .ensures) ∙ c .before .before .verdict .given .1)) (c .refuse2 .ensures)
+    propose-refused (s .args .e) (s .args .store) (s .args .sites) places (s .args .input .now) buffer _ (room, s .pre .1) (l .0) (l .1) _ (verdict-refused _ _ (sym (ap (λ (x : Plan). verdict (planRow (modelOf (on (s .args .e) (s .args .store) (s .args .sites))) x)) k) ∙ sym (c .before .before .before .before .judged .ensures (s .args .e)) ∙ c .before .before .verdict .given .1)) (c .refuse2 .ensures)
 
 enum-told-2 : tie.Need-enum-told-2
 enum-told-2 c = search needs
@@ -72,9 +68,9 @@ returns-3 c = λ places buffer room.
     let l = plan-counted o (sym (c .before .before .before .before .enum-told .given .1) ∙ ap (λ (x : PlanRead). x .answer) (c .before .before .before .before .before .before .before .read .ensures)) in
     let q = ap (λ (x : PlanRead). x .plan) (c .before .before .before .before .before .before .before .read .ensures) ∙ l .3 in
     let k = plan-in (s .args .e) (s .args .store .count) (s .args .input .now) (l .0) (l .1) _ q in
-    propose-passes (s .args .e) (s .args .store) (s .args .sites) places (s .args .input .now) buffer _ (room, s .pre .1) (l .0) (l .1) (verdict-passes _ (sym (ap (λ (x : Plan). verdict (firstRow (planRows (network (listOf (on (s .args .e) (s .args .store) (s .args .sites)))) (x .groups) (x .shares)))) k) ∙ sym (c .before .before .before .plan-row .ensures) ∙ c .before .enum-told2 .given .1))
+    propose-passes (s .args .e) (s .args .store) (s .args .sites) places (s .args .input .now) buffer _ (room, s .pre .1) (l .0) (l .1) (verdict-passes _ (sym (ap (λ (x : Plan). verdict (planRow (modelOf (on (s .args .e) (s .args .store) (s .args .sites))) x)) k) ∙ sym (c .before .before .before .judged .ensures (s .args .e)) ∙ c .before .enum-told2 .given .1))
     (c .with-plan .ensures
-    ∙ ap (λ (x : PlanArray). record { answer = of.Done; store = record { count = s .args .store .count; held = true; grouped = x .count; groups = x .groups; shares = x .shares }; sites = s .args .sites; n = 0 }) q)
+    ∙ ap (λ (x : PlanArray). takes (s .args .store) x (s .args .sites)) q)
 
 pub propose-spec : {M : Type 1} → statement M
 propose-spec =
@@ -85,7 +81,7 @@ propose-spec =
     refuse-requires
     returns
     enum-told
-    plan-row-requires
+    judged-requires
     enum-known-verdict
     refuse-requires-2
     returns-2
