@@ -6,6 +6,7 @@
 
 Lists and plans are written here, plans are made here (by counting over all sets, for lists of few depots), and each is held to the definition here before it is used; no code of the engine is called.
 The answer of a check is the row that the case is written for. It is compared with a plain reading of the table (`first_row`), and a difference stops the script.
+The answers of the desk's calls are those of `Book`, document 01's plain book: whether a proposal is true is counted over all sets, and held to the rows.
 """
 import subprocess
 import sys
@@ -128,11 +129,12 @@ def at(bs, start, width):
     return sum(b << (8 * i) for i, b in enumerate(bs[start:start + width]))
 
 
-def list_row(bs):
+def list_row(bs, places=512):
+    """0 where no row applies; on load `places` are the table's."""
     if len(bs) < 4 or bs[:2] != b"LS":
         return 1
     n = at(bs, 2, 2)
-    if n > 512:
+    if n > 512 or n > places:
         return 2
     if len(bs) != 4 + 6 * n:
         return 3
@@ -146,12 +148,25 @@ def list_row(bs):
     return 0
 
 
+def sites_in(bs):
+    """The sites of a list that no row refuses."""
+    return [(bs[6 + 6 * i], bs[7 + 6 * i], at(bs, 8 + 6 * i, 2)) for i in range(at(bs, 2, 2))]
+
+
 def first_row(list_bytes, plan_bytes):
     """0 where the plan passes."""
-    row = list_row(list_bytes)
-    if row:
-        return row
-    sites = [(list_bytes[6 + 6 * i], list_bytes[7 + 6 * i], at(list_bytes, 8 + 6 * i, 2)) for i in range(at(list_bytes, 2, 2))]
+    return list_row(list_bytes) or plan_row(sites_in(list_bytes), plan_bytes)
+
+
+def plan_in(plan_bytes):
+    """The groups and shares of a plan that rows 7 to 11 do not refuse."""
+    g, n = plan_bytes[2], at(plan_bytes, 3, 2)
+    groups = [{d for d in range(64) if at(plan_bytes, 7 + 10 * i, 8) >> d & 1} for i in range(g)]
+    return groups, [at(plan_bytes, 7 + 10 * g + 6 * i, 4) for i in range(n)]
+
+
+def plan_row(sites, plan_bytes):
+    """Rows 7 to 16; 0 where none applies."""
     if len(plan_bytes) < 5 or plan_bytes[:2] != b"PL":
         return 7
     g, n = plan_bytes[2], at(plan_bytes, 3, 2)
@@ -165,8 +180,7 @@ def first_row(list_bytes, plan_bytes):
     share_records = [plan_bytes[5 + 10 * g + 6 * i:11 + 10 * g + 6 * i] for i in range(n)]
     if any(r[:2] != b"GR" for r in group_records) or any(r[:2] != b"SH" for r in share_records):
         return 11
-    groups = [{d for d in range(64) if at(r, 2, 8) >> d & 1} for r in group_records]
-    shares = [at(r, 2, 4) for r in share_records]
+    groups, shares = plan_in(plan_bytes)
     seen = set()
     for x in groups:
         if not x or x & seen:
@@ -192,6 +206,108 @@ def first_row(list_bytes, plan_bytes):
         if weights[i] * len(groups[i + 1]) <= weights[i + 1] * len(groups[i]):
             return 16
     return 0
+
+
+# ---- the plain book
+
+counted = {}
+
+
+def definition(sites):
+    """The groups of a list, counted over all sets."""
+    key = tuple(sites)
+    if key not in counted:
+        counted[key] = groups_of(sites)
+    return counted[key]
+
+
+def is_true(sites, plan_bytes):
+    """Is the plan laid out for the list, with the groups of the definition, and do its shares keep the rules and are level?"""
+    groups, shares = plan_in(plan_bytes) if len(plan_bytes) >= 5 else ([], [])
+    if plan_bytes != make_plan(groups, shares) or len(shares) != len(sites) or groups != definition(sites):
+        return False
+    by, place = carried(sites, groups), {d: i for i, g in enumerate(groups) for d in g}
+    have = {d: 0 for d in place}
+    for (a, b, w), k, s in zip(sites, by, shares):
+        whole = w * len(groups[k])
+        if s > whole or a == b and s != whole or place[a] < k and s > 0 or place[b] < k and s < whole:
+            return False
+        have[a] += s
+        have[b] += whole - s
+    return all(have[d] == w for g, w in zip(groups, totals(sites, groups)) for d in g)
+
+
+class Book:
+    """"It has a list, at first without sites, and a plan, at first none." Each call answers what the console has to print."""
+
+    def __init__(self, places):
+        self.places, self.sites, self.plan = places, [], None
+
+    def listed(self, sites):
+        self.sites, self.plan = sites, None
+        return "done"
+
+    def load(self, bs):
+        row = list_row(bs, self.places)
+        return f"refused {row}" if row else self.listed(sites_in(bs))
+
+    def change(self, i, w):
+        if w == 0:
+            return "refused 6"
+        if i >= len(self.sites):
+            return "refused 18"
+        a, b, _ = self.sites[i]
+        return self.listed(self.sites[:i] + [(a, b, w)] + self.sites[i + 1:])
+
+    def add(self, a, b, w):
+        if len(self.sites) >= min(512, self.places):
+            return "refused 2"
+        if a > 63 or b > 63:
+            return "refused 5"
+        if w == 0:
+            return "refused 6"
+        return self.listed(self.sites + [(a, b, w)])
+
+    def propose(self, bs):
+        row = plan_row(self.sites, bs)
+        assert is_true(self.sites, bs) == (row == 0), (self.sites, bs, row)
+        if row:
+            return f"refused {row}"
+        self.plan = bs
+        return "done"
+
+    def figures(self, d):
+        """W and q of a depot, by the definition on the list alone; None where it is not listed."""
+        groups = definition(self.sites)
+        return next(((w, len(g)) for g, w in zip(groups, totals(self.sites, groups)) if d in g), None)
+
+    def share(self, i):
+        if self.plan is None:
+            return "refused 17"
+        if i >= len(self.sites):
+            return "refused 18"
+        groups = definition(self.sites)
+        return f"share {plan_in(self.plan)[1][i]} {self.sites[i][2] * len(groups[carried(self.sites, groups)[i]])}"
+
+    def depot(self, d):
+        if self.plan is None:
+            return "refused 17"
+        x = self.figures(d)
+        return "depot %d %d" % x if x else "refused 19"
+
+    def difference(self, a, b):
+        if self.plan is None:
+            return "refused 17"
+        x, y = self.figures(a), self.figures(b)
+        return f"difference {x[0] * y[1] - y[0] * x[1]} {x[1] * y[1]}" if x and y else "refused 19"
+
+    def written(self, length):
+        whole = b"\xA5" * length
+        if self.plan is None:
+            return "refused 17 " + text(whole)
+        if length < len(self.plan):
+            return "refused 20 " + text(whole)
+        return f"length {len(self.plan)} " + text(self.plan + whole[len(self.plan):])
 
 
 # ---- the script
@@ -543,6 +659,316 @@ def part_lines():
     lines.extend(["", "   "])
 
 
+book = Book(512)
+
+
+def table(places):
+    """A fresh desk and a table."""
+    global book
+    book = Book(places)
+    lines.append(f"table {places}")
+    answers.append(f"table {places}")
+
+
+def ask(name, *given, words=None, answer=None):
+    """A call of the desk: what the book has. Where an answer is given here, the book's begins with it."""
+    if words:
+        say(words)
+    lines.append(" ".join([name] + [text(x) if isinstance(x, bytes) else str(x) for x in given]))
+    found = getattr(book, name)(*given)
+    assert answer is None or found.split()[:len(answer.split())] == answer.split(), (words, lines[-1][:200], "meant", answer[:200], "found", found[:200])
+    answers.append(found)
+    return found
+
+
+def held(sites, plan):
+    """A list is loaded, and its plan becomes the held one."""
+    ask("load", make_list(sites), answer="done")
+    ask("propose", plan, answer="done")
+
+
+def ask_all(depots):
+    """Every question: each site, each depot, each pair, the plan written out."""
+    for i in range(len(book.sites) + 1):
+        ask("share", i)
+    for a in range(depots):
+        ask("depot", a)
+        for b in range(depots):
+            ask("difference", a, b)
+    ask("written", 5 + 10 * depots + 6 * len(book.sites))
+
+
+def part_desk_examples():
+    say("The desk. Before any `table` it is fresh and has 512 places. The examples of rows 17 to 20.")
+    ask("share", 0, words="row 17: fresh desk, share of site 0", answer="refused 17")
+    ask("depot", 0, answer="refused 17")
+    ask("difference", 0, 0, answer="refused 17")
+    ask("written", 4, answer="refused 17 A5A5A5A5")
+    ask("written", 0, answer="refused 17 -")
+    held([(0, 1, 10)], TP)
+    ask("share", 0, answer="share 10 20")
+    ask("depot", 0, answer="depot 10 2")
+    ask("depot", 1, answer="depot 10 2")
+    ask("difference", 0, 1, answer="difference 0 4")
+    ask("share", 1, words="row 18: T's plan held, site 1", answer="refused 18")
+    ask("depot", 2, words="row 19: T's plan held, depot 2", answer="refused 19")
+    ask("written", 20, words="row 20: T's plan into 20 bytes", answer="refused 20 " + "A5" * 20)
+    ask("written", 21, answer="length 21 " + text(TP))
+    ask("written", 23, words="the bytes behind are unchanged", answer="length 21 " + text(TP) + "A5A5")
+    ask("share", 2 ** 64 - 1, words="the largest site number", answer="refused 18")
+    ask("depot", 255, answer="refused 19")
+    ask("difference", 0, 2, words="row 19: the second depot, the first, both", answer="refused 19")
+    ask("difference", 2, 0, answer="refused 19")
+    ask("difference", 255, 255, answer="refused 19")
+    ask("written", 0, answer="refused 20 -")
+    raw("check and make leave the desk as it is", f"check {text(make_list(FOURS))} {text(make_plan([{0, 1}], [8, 8]))}", "passes")
+    raw("the same", f"make {text(make_list([own(0, 7)]))} 21", "length 21 " + text(make_plan([{0}], [7])))
+    ask("share", 0, answer="share 10 20")
+
+
+def part_desk_rows():
+    say("Load, rows 1 to 6: the list and its plan are kept.")
+    for row, bs in ((1, b""), (1, b"PL" + T[2:]), (2, bytes.fromhex("4C530102")), (2, make_list([own(0, 1)] * 513)), (3, T[:-1]), (3, T + b"\0"),
+                    (4, T.replace(b"ST", b"SU")), (5, make_list([(0, 64, 10)])), (5, make_list([(255, 0, 10)])), (6, make_list([(0, 1, 0)])),
+                    (4, make_list([(64, 1, 0), (0, 1, 10, b"SU")])), (5, make_list([(0, 1, 0), (0, 64, 10)]))):
+        ask("load", bs, answer=f"refused {row}")
+        ask("share", 0, answer="share 10 20")
+    say("Change, rows 6 and 18; add, rows 2, 5 and 6; the plan is kept.")
+    for i, w, row in ((0, 0, 6), (1, 0, 6), (1, 1, 18), (2 ** 64 - 1, 65535, 18), (2 ** 64 - 1, 0, 6), (512, 1, 18)):
+        ask("change", i, w, answer=f"refused {row}")
+    for a, b, w, row in ((64, 0, 1, 5), (0, 64, 1, 5), (255, 255, 0, 5), (0, 1, 0, 6), (63, 63, 0, 6)):
+        ask("add", a, b, w, answer=f"refused {row}")
+    ask("written", 21, answer="length 21 " + text(TP))
+    say("Propose, rows 7 to 16: the older plan is kept.")
+    for row, bs in ((7, b""), (7, TP[:4]), (7, bytes.fromhex("504D010100")), (8, bytes.fromhex("504C410100")), (9, bytes.fromhex("504C010200")),
+                    (10, TP + b"\0"), (10, TP[:-1]), (11, TP.replace(b"SH", b"SG")), (11, TP.replace(b"GR", b"SH")), (12, make_plan([{0}, {0, 1}], [10])),
+                    (12, make_plan([set(), {0, 1}], [10])), (13, make_plan([{0}], [10])), (13, make_plan([{0, 1, 2}], [10])), (13, make_plan([], [10])),
+                    (14, make_plan([{0, 1}], [21])), (15, make_plan([{0, 1}], [11])), (15, make_plan([{0, 1}], [9])), (16, make_plan([{0}, {1}], [0]))):
+        ask("propose", bs, answer=f"refused {row}")
+        ask("share", 0, answer="share 10 20")
+    ask("load", make_list(FOURS), words="row 16: own sites 0 and 1 of 4, groups {0}, {1}, shares 4, 4", answer="done")
+    ask("propose", make_plan([{0}, {1}], [4, 4]), answer="refused 16")
+    ask("depot", 0, words="a refused proposal is not held", answer="refused 17")
+    ask("propose", make_plan([{0, 1}], [8, 8]), answer="done")
+    ask("depot", 0, answer="depot 8 2")
+
+
+def part_desk_plans():
+    say("Success drops the plan, even if no figure differs.")
+    for name, given in (("change", (0, 10)), ("change", (0, 11)), ("add", (0, 1, 1)), ("add", (5, 5, 65535)), ("load", (T,)), ("load", (make_list([]),))):
+        held([(0, 1, 10)], TP)
+        ask(name, *given, answer="done")
+        ask("share", 0, answer="refused 17")
+        ask("share", 7, answer="refused 17")
+        ask("depot", 9, answer="refused 17")
+        ask("difference", 9, 9, answer="refused 17")
+        ask("written", 3, answer="refused 17 A5A5A5")
+        ask("propose", TP)
+    say("A plan of the list before is not true of the new one; the new one's is.")
+    held([(0, 1, 10)], TP)
+    ask("change", 0, 12, answer="done")
+    ask("propose", TP, answer="refused 15")
+    ask("propose", make_plan([{0, 1}], [12]), answer="done")
+    ask("share", 0, answer="share 12 24")
+    ask("change", 0, 65535, answer="done")
+    ask("propose", make_plan([{0, 1}], [65535]), answer="done")
+    ask("share", 0, answer="share 65535 131070")
+    say("Propose after propose: the second false, the second true, the same again.")
+    ask("load", make_list(TRIANGLE), answer="done")
+    ask("propose", make_plan([{0, 1, 2}], [3, 3, 0]), answer="done")
+    ask("share", 2, answer="share 0 3")
+    ask("propose", make_plan([{0, 1, 2}], [3, 3, 1]), answer="refused 15")
+    ask("share", 2, answer="share 0 3")
+    ask("propose", make_plan([{0, 1, 2}], [2, 2, 1]), answer="done")
+    ask("share", 2, answer="share 1 3")
+    ask("propose", make_plan([{0, 1, 2}], [2, 2, 1]), answer="done")
+    ask("propose", make_plan([{0}, {1}, {2}], [0, 0, 0]), answer="refused 16")
+    ask("written", 33, answer="length 33 " + text(make_plan([{0, 1, 2}], [2, 2, 1])))
+    say("An empty list: its plan is held.")
+    ask("load", make_list([]), answer="done")
+    ask("written", 5, answer="refused 17")
+    ask("propose", make_plan([], [], group_count=1), answer="refused 10")
+    ask("propose", TP, answer="refused 9")
+    ask("propose", make_plan([{0}], []), answer="refused 13")
+    ask("propose", make_plan([], []), answer="done")
+    ask("share", 0, answer="refused 18")
+    ask("depot", 0, answer="refused 19")
+    ask("difference", 0, 0, answer="refused 19")
+    ask("written", 4, answer="refused 20 A5A5A5A5")
+    ask("written", 6, answer="length 5 504C000000A5")
+    ask("add", 63, 63, 1, answer="done")
+    ask("written", 6, answer="refused 17")
+    say("The lists with known plans, loaded and asked; then built site by site.")
+    for sites in ([own(0, 7)], FOURS, FALLING, SEVEN, [own(0, 6), (0, 1, 6)], [own(0, 5), (0, 1, 6)], NINE_ONE, TRIANGLE, NINE):
+        groups = definition(sites)
+        held(sites, make_plan(groups, shares_of(sites, groups)))
+        ask_all(1 + max(listed(sites)))
+    table(512)
+    for s in NINE:
+        ask("add", *s, answer="done")
+    ask("propose", make_plan([{0, 1, 2, 3, 4}, {5}], shares_of(NINE, definition(NINE))), answer="done")
+    ask("depot", 4, answer="depot 8 5")
+    ask("difference", 4, 5, answer="difference 3 5")
+    ask("difference", 5, 4, answer="difference -3 5")
+    say("W/q is compared before it is divided: 11/2 and 5.")
+    held([own(0, 5), (0, 1, 6), own(2, 5)], make_plan([{0, 1}, {2}], [10, 1, 5]))
+    ask("difference", 1, 2, answer="difference 1 2")
+    ask("difference", 2, 1, answer="difference -1 2")
+
+
+def part_desk_tables():
+    say("Tables of few and of many places.")
+    table(0)
+    ask("load", T, answer="refused 2")
+    ask("load", make_list([], count=1), words="row 2 before row 3", answer="refused 2")
+    ask("add", 0, 1, 10, answer="refused 2")
+    ask("add", 64, 1, 0, words="row 2 before rows 5 and 6", answer="refused 2")
+    ask("load", make_list([]), answer="done")
+    ask("propose", make_plan([], []), answer="done")
+    ask("add", 0, 1, 10, answer="refused 2")
+    ask("written", 5, answer="length 5 504C000000")
+    table(1)
+    ask("written", 5, words="a fresh desk again", answer="refused 17")
+    ask("load", make_list(FOURS), answer="refused 2")
+    ask("add", 0, 1, 10, answer="done")
+    ask("add", 0, 1, 10, answer="refused 2")
+    ask("propose", TP, answer="done")
+    ask("add", 64, 1, 0, answer="refused 2")
+    ask("change", 0, 0, answer="refused 6")
+    ask("load", make_list(FOURS), answer="refused 2")
+    ask("share", 0, answer="share 10 20")
+    table(2)
+    ask("load", make_list(FOURS), answer="done")
+    ask("load", make_list(TRIANGLE), answer="refused 2")
+    ask("load", T, words="a shorter list", answer="done")
+    ask("propose", make_plan([{0, 1}], [10]), answer="done")
+    ask("share", 1, answer="refused 18")
+    ask("add", 2, 2, 3, answer="done")
+    ask("add", 2, 2, 3, answer="refused 2")
+    large = make_plan([set(range(64))], [4194240] * 512)
+    counted[tuple(LARGE)] = [set(range(64))]  # as document 01 has it
+    for places in (512, 600):
+        table(places)
+        ask("load", make_list(LARGE), answer="done")
+        ask("add", 0, 0, 1, answer="refused 2")
+        ask("propose", large, answer="done")
+        ask("share", 511, answer="share 4194240 4194240")
+        ask("share", 512, answer="refused 18")
+        ask("depot", 63, answer="depot 33553920 64")
+        ask("depot", 64, answer="refused 19")
+        ask("difference", 0, 63, answer="difference 0 4096")
+        ask("written", 3086, answer="refused 20")
+        ask("written", 3087, answer="length 3087 " + text(large))
+        ask("propose", large[:-1] + b"\1", answer="refused 14")
+        ask("change", 511, 65534, answer="done")
+    table(511)
+    ask("load", make_list(LARGE), answer="refused 2")
+    ask("load", make_list([own(0, 65535)] * 510), answer="done")
+    ask("add", 1, 1, 1, answer="done")
+    ask("add", 1, 1, 1, answer="refused 2")
+    ask("propose", make_plan([{0}, {1}], [65535] * 510 + [1]), answer="done")
+    ask("difference", 0, 1, answer="difference 33422849 1")
+    ask("difference", 1, 0, answer="difference -33422849 1")
+
+
+def part_desk_lines():
+    say("Lines that are no calls of the desk; it is left as it was.")
+    table(3)
+    held([(0, 1, 10)], TP)
+    for line in ("table 601", "table 18446744073709551617", "table", "table -1", "table 3 3", "table 0x3", "load", f"load {text(T)} -", f"load {text(T)}0", "load XY",
+                 "change 0", "change 0 65536", "change 0 70000", "change 18446744073709551616 1", "change -1 1", "change 0 1 1", "change - 1",
+                 "add 0 1", "add 256 1 1", "add 0 256 1", "add 0 1 65536", "add 0 1 1 1", "add 0 1 70000", "add", "propose", f"propose {text(TP)} {text(TP)}", "propose 5",
+                 "share", "share 18446744073709551616", "share 99999999999999999999999", "share 0 0", "share A", "depot", "depot 256", "depot 300", "depot 0 1",
+                 "difference", "difference 0", "difference 0 256", "difference 256 0", "difference 0 1 2", "written", "written 8193", "written -", "written 1 1", "fresh", "Load -"):
+        lines.append(line)
+        answers.append("bad line")
+    ask("share", 0, answer="share 10 20")
+    raw("zeros in front", "share 000000000000000000000000", "share 10 20")
+    raw("the largest site number", f"change {2 ** 64 - 1} 1", "refused 18")
+    raw("spaces", f"  written   21  ", "length 21 " + text(TP))
+    long = "propose " + text(TP)
+    raw("a line of 16,384 bytes", long + " " * (16384 - len(long)), "done")
+    bad("a line of 16,385 bytes", long + " " * (16385 - len(long)))
+    ask("propose", b"PL" + b"\0" * 8186, words="8,188 bytes", answer="refused 9")
+    ask("written", 8192, words="the largest buffer", answer="length 21")
+    table(512)
+
+
+def turned(sites, groups):
+    """Level shares of another kind: worked out with each site's depots exchanged."""
+    other = shares_of([(b, a, w) for a, b, w in sites], groups)
+    return [w * len(groups[k]) - (s if a != b else 0) for (a, b, w), k, s in zip(sites, carried(sites, groups), other)]
+
+
+def near_miss(draw, sites, groups, shares):
+    """A plan near the true one: a share moved, shares exchanged, groups exchanged, merged or cut."""
+    kind, groups, shares = draw(6), list(groups), list(shares)
+    i, j = draw(len(shares)), draw(len(groups))
+    if kind == 0:
+        shares[i] += 1
+    elif kind == 1:
+        shares[i] = max(0, shares[i] - 1)
+    elif kind == 2:
+        k = draw(len(shares))
+        shares[i], shares[k] = shares[k], shares[i]
+    elif kind == 3 and j:
+        groups[j - 1], groups[j] = groups[j], groups[j - 1]
+    elif kind == 4 and j:
+        groups[j - 1:j + 1] = [groups[j - 1] | groups[j]]
+        shares = placed(sites, groups)
+    else:
+        groups[j:j + 1] = [{min(groups[j])}, groups[j] - {min(groups[j])}]
+        shares = level(sites, groups) or shares if all(groups) else shares
+    return make_plan(groups, shares)
+
+
+def part_histories():
+    say("Histories: calls drawn by a fixed rule, over at most 6 depots. Proposals are true, true of an earlier list, near misses, and the same again.")
+    numbers = drawn(3)
+
+    def draw(n):
+        return next(numbers) % n
+
+    done = 0
+    for k in range(20):
+        say(f"history {k}")
+        depots, most = 1 + draw(6), (1, 2, 6, 65535)[draw(4)]
+        table((3, 5, 8, 512, 600)[draw(5)])
+        plans = [make_plan([], [])]
+        for _ in range(30 + draw(31)):
+            kind, n = draw(20), len(book.sites)
+            if kind < 1:
+                ask("load", make_list([(draw(depots), draw(depots), 1 + draw(most)) for _ in range(draw(6))]))
+            elif kind < 2:
+                ask("change", draw(n + 1), draw(most + 1))
+            elif kind < 4:
+                ask("add", draw(depots), draw(depots) if draw(20) else 64, draw(most + 1) if draw(4) else 1)
+            elif kind < 8 and n:
+                groups = definition(book.sites)
+                plans.append(make_plan(groups, (shares_of, turned)[draw(2)](book.sites, groups)))
+                done += ask("propose", plans[-1]) == "done"
+            elif kind < 11 and n:
+                groups = definition(book.sites)
+                done += ask("propose", near_miss(draw, book.sites, groups, (shares_of, turned)[draw(2)](book.sites, groups))) == "done"
+            elif kind < 12:
+                ask("propose", plans[draw(len(plans))])
+            elif kind < 13:
+                ask("propose", plans[-1])
+            elif kind < 15:
+                ask("share", draw(n + 1))
+            elif kind < 17:
+                ask("depot", draw(depots + 1))
+            elif kind < 19:
+                ask("difference", draw(depots), draw(depots))
+            else:
+                ask("written", draw(2) * 60 + draw(60))
+        if k % 4 and book.sites:
+            groups = definition(book.sites)
+            ask("propose", make_plan(groups, turned(book.sites, groups)), answer="done")
+        ask_all(depots)
+    assert done >= 100, done
+
+
 # what a make line answers: the plan where it is forced, else nothing is known here
 makes = []
 
@@ -596,6 +1022,12 @@ def main():
     part_false()
     part_small()
     part_lines()
+    part_desk_examples()
+    part_desk_rows()
+    part_desk_plans()
+    part_desk_tables()
+    part_desk_lines()
+    part_histories()
     part_make()
     folder = sys.argv[1]
     script = "\n".join(lines)  # the last line lacks its newline

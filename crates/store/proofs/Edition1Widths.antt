@@ -5,8 +5,8 @@ use mathlib.Core.List.{List, [], _∷_, map}
 use Prim.Native.Nat.{ℕ, zero, suc, _<_, _≤_, _^_, min}
 use native.Mathlib.Omega.{arith}
 use lib.Dec.{ltb, ltb→lt, nltb→le, not-T, lit<}
-use lib.ListN.{length, getD, take, drop, length-map, List·getD-eq-default}
-use lib.Seq.{length-take-le}
+use lib.ListN.{length, getD, take, drop, length-map, drop-of-length-le, List·getD-eq-default}
+use lib.Seq.{take-all, length-take-le}
 use mir.Val.{Val}
 use denote.Builtin.{u32}
 use denote.Array.{Array, each}
@@ -21,7 +21,7 @@ use Rattle.records.specs.Format.{edition1}
 use Rattle.table.specs.declared.Site1.{Site1}
 use Rattle.table.specs.Table.{overlay, blank, heldOf}
 use Rattle.table.specs.Widths.{noSite1, widened, LitresFit}
-use Rattle.table.proofs.Overlay.{overlay-at, held-length, map-held}
+use Rattle.table.proofs.Overlay.{overlay-at, overlay-length, held-length, map-held}
 use Rattle.table.proofs.Widths.{fit-at, widened-injective}
 use Rattle.table.proofs.Copies.{widened-over, stored-fits, stored-first}
 use Rattle.store.specs.declared.Store.{Store}
@@ -57,6 +57,19 @@ table-fits l table e h i m =
     (ap (λ (x : List Site). getD x i noSite) e ∙ overlay-at (min (length table) 512) table (blank noSite) i noSite (omega arith) (omega arith))
     (fit-at l h i (omega (arith, m, ap length e, held-length noSite table))))
     (λ n. rw (List·getD-eq-default table noSite (nltb→le i (length table) (not-T (ltb i (length table)) n))) (lit< tt)) (T? (ltb i (length table)))
+
+-- as many places as are asked for, or all that there are
+all-places : (asked few n : ℕ) (l : List Site1) → few ≡ min asked n → length l ≡ n → (take few l ≡ take asked l) × (drop few l ≡ drop asked l)
+all-places asked few n l e long =
+    ⊎-elim
+    (λ t.
+    let k : few ≡ asked = omega (arith, e, ltb→lt asked n t) in
+    (ap (λ (i : ℕ). take i l) k, ap (λ (i : ℕ). drop i l) k))
+    (λ f.
+    let m : n ≤ asked = nltb→le asked n (not-T (ltb asked n) f) in
+    let k : length l ≤ few = omega (arith, e, m, long) in
+    let j : length l ≤ asked = omega (arith, m, long) in
+    (take-all few l k ∙ sym (take-all asked l j), drop-of-length-le l k ∙ sym (drop-of-length-le l j))) (T? (ltb asked n))
 
 abbrev done1 : Store → List Site → Decision → List ℕ → Done
 done1 a t d last = record { after = on edition1 a t; reply = record { answer = told (d .answer); buffer = last } }
@@ -103,16 +116,35 @@ module _ (store : Store1) (sites : List Site1) (places : ℕ) (request : Request
       (subst (λ (x : Store). (i : ℕ) → getD (x .shares) i 0 < 2 ^ 32) (w .0) (w .1)) (subst (Named (2 ^ 16)) r (named (2 ^ 16) q (n .0) (n .1))) narrows fronts
 
   -- a call on the first places of a table by value
-  pub calls-on1 : (table : List Site1) {r : Decision1} {after : List Site1} → places ≤ length table → sites ≡ heldOf noSite1 (take places table)
+  on-first : (table : List Site1) {r : Decision1} {after : List Site1} → places ≤ length table → sites ≡ heldOf noSite1 (take places table)
       → Served1 store sites places request input buffer r last
       → (after ≡ overlay (r .n) (r .sites) table) × (length (r .sites) ≡ 512)
       → (turned1 (record { answer = r .answer; store = r .store }) (take places after) last ≡ step (view1 store (take places table)) (callOf1 request input buffer))
       × (drop places after ≡ drop places table)
-  calls-on1 table {r} {after} room e s (f, long) =
+  on-first table {r = r} {after = after} room e s (f, long) =
       let p = stored-first (r .n) places (r .sites) table (omega (arith, s .few, long)) (s .room) room in (
         ap (λ (t : List Site1). turned1 (record { answer = r .answer; store = r .store }) t last) (ap (take places) f ∙ p .0)
             ∙ s .steps (take places table) e (sym (length-take-le places table room)),
         ap (drop places) f ∙ p .1,
+      )
+
+  -- the same where more places are asked for than there are: they are all of them
+  pub calls-on1 : (asked : ℕ) (table : List Site1) {r : Decision1} {after : List Site1} → places ≡ min asked (length table)
+      → sites ≡ heldOf noSite1 (take places table)
+      → Served1 store sites places request input buffer r last
+      → (after ≡ overlay (r .n) (r .sites) table) × (length (r .sites) ≡ 512)
+      → (turned1 (record { answer = r .answer; store = r .store }) (take asked after) last ≡ step (view1 store (take asked table)) (callOf1 request input buffer))
+      × (drop asked after ≡ drop asked table)
+  calls-on1 asked table {r} {after} few e s x =
+      let room : places ≤ length table = omega (arith, few) in
+      let long : length after ≡ length table = ap length (x .0) ∙ overlay-length (r .sites) table (r .n) (omega (arith, s .few, x .1)) (omega (arith, s .room, room)) in
+      let a = all-places asked places (length table) table few refl in
+      let b = all-places asked places (length table) after few long in
+      let (steps, kept) = on-first table {r = r} {after = after} room e s x in (
+        ap (λ (t : List Site1). turned1 (record { answer = r .answer; store = r .store }) t last) (sym (b .0))
+            ∙ steps
+            ∙ ap (λ (t : List Site1). step (view1 store t) (callOf1 request input buffer)) (a .0),
+        sym (b .1) ∙ kept ∙ a .1,
       )
 
 -- ---- states of edition 1

@@ -14,7 +14,7 @@ use table::values::narrow_first;
 use table::values::store_on1;
 use table::widen_all;
 ghost use mathlib.Core.Path.{_≡_};
-ghost use Prim.Native.Nat.{ℕ, _<_, _≤_, _^_};
+ghost use Prim.Native.Nat.{ℕ, _<_, _^_, min};
 ghost use lib.ListN.{getD, take, drop};
 ghost use Rattle.store.specs.State.{step};
 ghost use Rattle.store.specs.Edition1.{storeOf1, view1, requestOf1, callOf1, fresh1, turned1, Served1};
@@ -142,7 +142,14 @@ pub struct OutOn1 {
     pub table: [Site1; 600],
 }
 
-// A call for a program that owns its table: the table is the first so many places, and those behind keep their content.
+// The places of the array that a table of so many has.
+fn places_on1(places: usize) -> usize
+    ensures { λ r. ⌜ r ≡ min places 600 ⌝ }
+{
+    if places < 600 { places } else { 600 }
+}
+
+// A call for a program that owns its table: the table is the first so many places of the array, at most all 600, and those behind keep their content.
 pub fn call_on1(
     store: Store1,
     table: [Site1; 600],
@@ -151,11 +158,11 @@ pub fn call_on1(
     input: &[u8],
     buffer: &mut [u8],
 ) -> OutOn1
-    requires { ⌜ places ≤ 600 ⌝ }
     ensures { λ r. ⌜ (turned1 (record { answer = r .answer; store = r .store }) (take places (r .table)) (now (buffer .exit)) ≡ step (view1 store (take places table)) (callOf1 request (now (input .entry)) (now (buffer .entry)))) × (drop places (r .table) ≡ drop places table) ⌝ }
 {
-    let sites = held_on1(table, places);
-    let d = serve1(store, sites, places, request, input, buffer);
+    let few = places_on1(places);
+    let sites = held_on1(table, few);
+    let d = serve1(store, sites, few, request, input, buffer);
     let answer = d.answer;
     let n = d.n;
     let store = d.store;

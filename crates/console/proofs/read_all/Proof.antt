@@ -12,6 +12,9 @@ Inv-loop line₀ turn₀ turns₀ line turn turns = length line ≡ length line�
 abbrev μ-loop : tie.MeasureT-loop
 μ-loop line₀ turn₀ turns₀ line turn turns = turns
 
+desk-requires : tie.Need-desk-requires Inv-loop μ-loop
+desk-requires c κs = omega arith
+
 loop-holds : tie.Need-loop-holds Inv-loop μ-loop
 loop-holds c = refl
 
@@ -39,6 +42,7 @@ read-all-spec =
     (tie.spec
     Inv-loop
     μ-loop
+    desk-requires
     loop-holds
     read-piece-requires
     sub-turns

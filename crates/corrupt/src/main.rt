@@ -1,0 +1,368 @@
+// Desks and tables that no history leaves behind, put to the desk's entry. Where row 0 applies, every call but load is refused by it, and the desk, the table and the
+// buffer come back as they were; load works. Where only rows 15 or 16 would refuse the held plan, or the content lies beyond what is held, the desk answers from what it holds.
+use libc::STDOUT_FILENO;
+use store::Answer;
+use store::Request1;
+use store::Store1;
+use store::edition1::call_on1;
+use store::edition1::fresh1;
+use table::Site1;
+
+// What came out so far: how many answers there were, and how many of them were right.
+struct Tally {
+    asked: u64,
+    right: u64,
+}
+
+fn tallied(t: Tally, ok: bool) -> Tally {
+    let asked = std::num::wrapping_add_u64(t.asked, 1);
+    if ok {
+        return Tally {
+            asked,
+            right: std::num::wrapping_add_u64(t.right, 1),
+        };
+    }
+    Tally {
+        asked,
+        right: t.right,
+    }
+}
+
+struct Desk {
+    store: Store1,
+    table: [Site1; 600],
+    places: usize,
+}
+
+fn site(first: u8, second: u8, litres: u16) -> Site1 {
+    Site1 {
+        first,
+        second,
+        litres,
+    }
+}
+
+// A desk of so many sites, of two sites and others alike behind them, and no plan.
+fn listed(count: usize, first: Site1, second: Site1, others: Site1, places: usize) -> Desk {
+    let mut store = fresh1();
+    store.count = count;
+    let mut table = [others; 600];
+    table[0] = first;
+    table[1] = second;
+    Desk {
+        store,
+        table,
+        places,
+    }
+}
+
+// The desk with a plan of two groups and two shares at the front.
+fn planned(d: Desk, grouped: usize, g: u64, h: u64, s: u32, u: u32) -> Desk {
+    let mut store = d.store;
+    let table = d.table;
+    let mut groups = [0u64; 64];
+    groups[0] = g;
+    groups[1] = h;
+    let mut shares = [0u32; 512];
+    shares[0] = s;
+    shares[1] = u;
+    store.held = true;
+    store.grouped = grouped;
+    store.groups = groups;
+    store.shares = shares;
+    Desk {
+        store,
+        table,
+        places: d.places,
+    }
+}
+
+fn same_groups(a: [u64; 64], b: [u64; 64]) -> bool {
+    for k in 0..64 {
+        if a[k] != b[k] {
+            return false;
+        }
+    }
+    true
+}
+
+fn same_shares(a: [u32; 512], b: [u32; 512]) -> bool {
+    for k in 0..512 {
+        if a[k] != b[k] {
+            return false;
+        }
+    }
+    true
+}
+
+fn same_site(a: Site1, b: Site1) -> bool {
+    if a.first != b.first {
+        return false;
+    }
+    if a.second != b.second {
+        return false;
+    }
+    a.litres == b.litres
+}
+
+fn same_table(a: [Site1; 600], b: [Site1; 600]) -> bool {
+    for k in 0..600 {
+        let x = a[k];
+        let y = b[k];
+        if !same_site(x, y) {
+            return false;
+        }
+    }
+    true
+}
+
+fn same_store(a: Store1, b: Store1) -> bool {
+    if a.count != b.count {
+        return false;
+    }
+    if a.held != b.held {
+        return false;
+    }
+    if a.grouped != b.grouped {
+        return false;
+    }
+    let groups = a.groups;
+    let others = b.groups;
+    if !same_groups(groups, others) {
+        return false;
+    }
+    let shares = a.shares;
+    let left = b.shares;
+    same_shares(shares, left)
+}
+
+fn same_answer(a: Answer, b: Answer) -> bool {
+    match a {
+        Answer::Refused(n) => match b {
+            Answer::Refused(m) => n == m,
+            _ => false,
+        },
+        Answer::Done => match b {
+            Answer::Done => true,
+            _ => false,
+        },
+        Answer::Share(s, w) => match b {
+            Answer::Share(t, v) => s == t && w == v,
+            _ => false,
+        },
+        Answer::Depot(w, q) => match b {
+            Answer::Depot(v, p) => w == v && q == p,
+            _ => false,
+        },
+        Answer::Difference(d, q) => match b {
+            Answer::Difference(e, p) => d == e && q == p,
+            _ => false,
+        },
+        Answer::Length(n) => match b {
+            Answer::Length(m) => n == m,
+            _ => false,
+        },
+    }
+}
+
+// The call gets this answer, and the desk, the table and the buffer are as before.
+fn stays(d: Desk, request: Request1, input: &[u8], expected: Answer) -> bool {
+    let store = d.store;
+    let table = d.table;
+    let whole = [0xA5u8; 20];
+    let mut buffer = [0xA5u8; 20];
+    let out = call_on1(store, table, d.places, request, input, &mut buffer);
+    let answer = out.answer;
+    if !same_answer(answer, expected) {
+        return false;
+    }
+    let left = out.store;
+    if !same_store(store, left) {
+        return false;
+    }
+    let after = out.table;
+    if !same_table(table, after) {
+        return false;
+    }
+    check::same(&buffer, &whole)
+}
+
+// The call is done, no plan is held then and this many sites are, and all places for groups and shares are zero.
+fn clears(d: Desk, request: Request1, input: &[u8], count: usize) -> bool {
+    let store = d.store;
+    let table = d.table;
+    let mut none = [0u8; 0];
+    let out = call_on1(store, table, d.places, request, input, &mut none);
+    let answer = out.answer;
+    if !same_answer(answer, Answer::Done) {
+        return false;
+    }
+    let left = out.store;
+    let mut bare = fresh1();
+    bare.count = count;
+    same_store(left, bare)
+}
+
+// A call with no input that changes nothing, and one that is done.
+fn asked(t: Tally, d: Desk, request: Request1, expected: Answer) -> Tally {
+    tallied(t, stays(d, request, b"", expected))
+}
+
+fn cleared(t: Tally, d: Desk, request: Request1, count: usize) -> Tally {
+    tallied(t, clears(d, request, b"", count))
+}
+
+// The plan of document 01's list T is proposed, and this row refuses it.
+fn proposed(t: Tally, d: Desk, row: u8) -> Tally {
+    let plan = b"PL\x01\x01\x00GR\x03\x00\x00\x00\x00\x00\x00\x00SH\x0A\x00\x00\x00";
+    tallied(t, stays(d, Request1::Propose, plan, Answer::Refused(row)))
+}
+
+// On load the empty list is done, and no bytes are row 1.
+fn loaded(t: Tally, d: Desk) -> Tally {
+    let u = asked(t, d, Request1::Load, Answer::Refused(1));
+    tallied(u, clears(d, Request1::Load, b"LS\x00\x00", 0))
+}
+
+// The calls that try row 0 answer it: those that would write, and the questions.
+fn no_writes(start: Tally, d: Desk) -> Tally {
+    let zero = Answer::Refused(0);
+    let t = asked(start, d, Request1::Change(0, 1), zero);
+    let u = asked(t, d, Request1::Change(9, 0), zero);
+    let v = asked(u, d, Request1::Add(0, 1, 1), zero);
+    asked(v, d, Request1::Add(64, 0, 0), zero)
+}
+
+fn no_answers(start: Tally, d: Desk) -> Tally {
+    let zero = Answer::Refused(0);
+    let t = asked(start, d, Request1::Share(0), zero);
+    let u = asked(t, d, Request1::Depot(0), zero);
+    let v = asked(u, d, Request1::Difference(0, 1), zero);
+    asked(v, d, Request1::Written, zero)
+}
+
+// Row 0 in every call but load; a list that is refused, and the empty list, which is not.
+fn corrupt(start: Tally, d: Desk) -> Tally {
+    loaded(proposed(no_answers(no_writes(start, d), d), d, 0), d)
+}
+
+// A desk of so many sites (0,1) of 10, over so many places.
+fn counted(t: Tally, count: usize, places: usize) -> Tally {
+    let x = site(0, 1, 10);
+    corrupt(t, listed(count, x, x, x, places))
+}
+
+// "held site count above 512 or the table's places"
+fn corrupt_counts(start: Tally) -> Tally {
+    let t = counted(start, 1, 0);
+    let u = counted(counted(t, 2, 1), 513, 600);
+    let v = counted(counted(u, 600, 600), 601, 600);
+    counted(v, 18446744073709551615, 18446744073709551615)
+}
+
+// A held site behind a sound one, and the same as the first, without a plan and with one.
+fn with_site(start: Tally, x: Site1) -> Tally {
+    let sound = site(0, 1, 10);
+    let first = listed(1, x, sound, sound, 9);
+    let t = corrupt(start, first);
+    let u = corrupt(t, planned(first, 1, 3, 0, 10, 0));
+    corrupt(u, listed(2, sound, x, sound, 2))
+}
+
+// "a held site that rows 5 or 6 refuse"
+fn corrupt_sites(start: Tally) -> Tally {
+    let t = with_site(start, site(0, 64, 10));
+    let u = with_site(t, site(255, 0, 10));
+    let v = with_site(u, site(0, 1, 0));
+    let x = site(0, 1, 10);
+    corrupt(v, listed(512, x, x, site(0, 0, 0), 512))
+}
+
+// T with a held plan of two groups and a share.
+fn with_plan(t: Tally, grouped: usize, g: u64, h: u64, s: u32) -> Tally {
+    let no = site(0, 0, 0);
+    let one = listed(1, site(0, 1, 10), no, no, 512);
+    corrupt(t, planned(one, grouped, g, h, s, 0))
+}
+
+// "a held plan that rows 8 or 12 .. refuse": too many groups, groups that meet, an empty one
+fn corrupt_groups(start: Tally) -> Tally {
+    let t = with_plan(start, 65, 3, 0, 10);
+    let u = with_plan(t, 18446744073709551615, 3, 0, 10);
+    let v = with_plan(u, 2, 1, 3, 10);
+    with_plan(with_plan(v, 2, 3, 0, 10), 64, 3, 0, 10)
+}
+
+// rows 13 and 14: a listed depot in no group, one that is not listed; a share above w × q
+fn corrupt_shares(start: Tally) -> Tally {
+    let t = with_plan(start, 0, 3, 0, 10);
+    let u = with_plan(t, 1, 1, 2, 10);
+    let v = with_plan(u, 1, 7, 0, 10);
+    with_plan(with_plan(v, 1, 3, 0, 21), 1, 3, 0, 4294967295)
+}
+
+// row 14: own 0 of 7 and (0,1) of 6, the own site not whole; a share to an earlier group; a share above w × q
+fn corrupt_own(start: Tally) -> Tally {
+    let no = site(0, 0, 0);
+    let two = listed(2, site(0, 0, 7), site(0, 1, 6), no, 2);
+    let t = corrupt(start, planned(two, 2, 1, 2, 6, 0));
+    let u = corrupt(t, planned(two, 2, 1, 2, 7, 1));
+    corrupt(u, planned(two, 1, 3, 0, 14, 13))
+}
+
+// A plan that only row 15 refuses is answered from what is held.
+fn uneven(start: Tally) -> Tally {
+    let no = site(0, 0, 0);
+    let d = planned(listed(1, site(0, 1, 10), no, no, 1), 1, 3, 0, 11, 0);
+    let t = asked(start, d, Request1::Share(0), Answer::Share(11, 20));
+    let u = asked(t, d, Request1::Depot(1), Answer::Depot(10, 2));
+    let v = asked(u, d, Request1::Written, Answer::Refused(20));
+    cleared(v, d, Request1::Change(0, 10), 1)
+}
+
+// A plan that only row 16 refuses likewise.
+fn rising(start: Tally) -> Tally {
+    let no = site(0, 0, 0);
+    let two = listed(2, site(0, 0, 4), site(1, 1, 4), no, 600);
+    let d = planned(two, 2, 1, 2, 4, 4);
+    let t = asked(start, d, Request1::Depot(0), Answer::Depot(4, 1));
+    let zero = Answer::Difference(0, 1);
+    let u = asked(t, d, Request1::Difference(0, 1), zero);
+    let v = proposed(u, d, 9);
+    cleared(v, d, Request1::Add(0, 1, 1), 3)
+}
+
+// Content beyond what is held is no corruption: places of the table, of groups and of shares.
+fn beyond(start: Tally) -> Tally {
+    let bad = site(255, 255, 0);
+    let one = listed(1, site(0, 1, 10), bad, bad, 600);
+    let d = planned(one, 1, 3, 3, 10, 77);
+    let t = asked(start, d, Request1::Share(0), Answer::Share(10, 20));
+    let u = asked(t, d, Request1::Depot(0), Answer::Depot(10, 2));
+    let v = asked(u, d, Request1::Share(1), Answer::Refused(18));
+    cleared(v, d, Request1::Add(2, 3, 4), 2)
+}
+
+// Nor is a plan's content beside "no plan held".
+fn beside(start: Tally) -> Tally {
+    let bad = site(255, 255, 0);
+    let one = listed(1, site(0, 1, 10), bad, bad, 1);
+    let mut d = planned(one, 65, 3, 3, 99, 77);
+    d.store.held = false;
+    let t = asked(start, d, Request1::Share(0), Answer::Refused(17));
+    let u = asked(t, d, Request1::Add(0, 1, 1), Answer::Refused(2));
+    let v = asked(u, d, Request1::Propose, Answer::Refused(7));
+    cleared(v, d, Request1::Change(0, 10), 1)
+}
+
+fn main() {
+    let none = Tally { asked: 0, right: 0 };
+    let lists = corrupt_sites(corrupt_counts(none));
+    let plans = corrupt_own(corrupt_shares(corrupt_groups(lists)));
+    let t = beside(beyond(rising(uneven(plans))));
+    io::write_all(STDOUT_FILENO, b"corrupt desks: ");
+    io::print_decimal(STDOUT_FILENO, t.right);
+    io::write_all(STDOUT_FILENO, b" of ");
+    io::print_decimal(STDOUT_FILENO, t.asked);
+    io::write_all(STDOUT_FILENO, b" right\n");
+}
