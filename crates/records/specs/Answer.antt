@@ -1,5 +1,5 @@
 -- The readers' answers: the paper's number and the value of each case.
-use Prim.Native.Nat.{ℕ, _-_}
+use Prim.Native.Nat.{ℕ, _+_, _-_}
 use mathlib.Core.List.{List, [], _++_, map}
 use lib.ListN.{length, drop, replicate}
 use Rattle.density.specs.Network.{Listing, noSite}
@@ -13,7 +13,7 @@ use Rattle.records.specs.declared.Edition.{Edition}
 use Rattle.records.specs.declared.Read.the-variants.{Count, Refused}
 use Rattle.records.specs.Values.{Plan}
 use Rattle.records.specs.Record.{records, anyOf, wrongMark}
-use Rattle.records.specs.Format.{siteSize, siteOf, wrongDepot, noLitres}
+use Rattle.records.specs.Format.{siteOf, wrongDepot, noLitres}
 use Rattle.records.specs.Outcome.{Outcome, refused, passed}
 
 -- a row of n places: these, and then zeros
@@ -27,19 +27,21 @@ listArray l = record { count = length (l .sites); sites = filled 512 (l .sites) 
 abbrev pub planArray : Plan → PlanArray
 planArray p = record { count = length (p .groups); groups = filled 64 (p .groups) 0; shares = filled 512 (p .shares) 0 }
 
--- what one site's record says, and what n of them behind the head say
-abbrev pub siteRead : Edition → List ℕ → SiteRead
-siteRead e r =
-    record { site = siteOf (e .litres) r; mark = wrongMark (e .mark .site) r; depot = wrongDepot r; litres = noLitres (e .litres) r }
+-- what one site's record says, and what n of them behind the head say, of a site's mark m and litres of w bytes
+abbrev pub siteRead : ℕ → ℕ → List ℕ → SiteRead
+siteRead m w r = record { site = siteOf w r; mark = wrongMark m r; depot = wrongDepot r; litres = noLitres w r }
+
+abbrev pub sitesBy : ℕ → ℕ → ℕ → List ℕ → SitesRead
+sitesBy m w n s =
+    record {
+      sites = filled 512 (map (siteOf w) (records (4 + w) n (drop 4 s))) noSite;
+      marks = anyOf (wrongMark m) (records (4 + w) n (drop 4 s));
+      depots = anyOf wrongDepot (records (4 + w) n (drop 4 s));
+      litres = anyOf (noLitres w) (records (4 + w) n (drop 4 s));
+    }
 
 abbrev pub sitesRead : Edition → ℕ → List ℕ → SitesRead
-sitesRead e n s =
-    record {
-      sites = filled 512 (map (siteOf (e .litres)) (records (siteSize e) n (drop 4 s))) noSite;
-      marks = anyOf (wrongMark (e .mark .site)) (records (siteSize e) n (drop 4 s));
-      depots = anyOf wrongDepot (records (siteSize e) n (drop 4 s));
-      litres = anyOf (noLitres (e .litres)) (records (siteSize e) n (drop 4 s));
-    }
+sitesRead e = sitesBy (e .mark .site) (e .litres)
 
 -- the row that refuses and a value that is empty, or the count and the value
 abbrev pub listRead : Outcome Listing → ListRead

@@ -11,16 +11,15 @@ use density::Site;
 ghost use mathlib.Core.Path.{_≡_};
 ghost use Prim.Native.Nat.{_≤_, _+_, _*_};
 ghost use lib.ListN.{length, take, drop};
-ghost use Rattle.records.specs.Answer.{siteRead, sitesRead, listRead};
+ghost use Rattle.records.specs.Answer.{siteRead, sitesBy, sitesRead, listRead};
 ghost use Rattle.records.specs.Outcome.{refused};
 ghost use Rattle.records.specs.Format.{siteSize, readList};
 
-// What the record of a site at a place of `s` says.
-pub fn site_at(e: Edition, s: &[u8], at: usize) -> SiteRead
-    requires { ⌜ (e .litres ≤ 4) × (at + siteSize e ≤ length (now s)) ⌝ }
-    ensures { λ r. ⌜ r ≡ siteRead e (take (siteSize e) (drop at (now (s .entry)))) ⌝ }
+// What the record of a site at a place of `s` says, where a site's mark is m and its litres have `w` bytes.
+pub fn site_at(m: u64, w: usize, s: &[u8], at: usize) -> SiteRead
+    requires { ⌜ (w ≤ 4) × (at + (4 + w) ≤ length (now s)) ⌝ }
+    ensures { λ r. ⌜ r ≡ siteRead m w (take (4 + w) (drop at (now (s .entry)))) ⌝ }
 {
-    let w = e.litres;
     let r = scan::record_at(s, at, 2 + w);
     let first = (r.body % 256) as u8;
     let second = (r.body / 256 % 256) as u8;
@@ -30,7 +29,7 @@ pub fn site_at(e: Edition, s: &[u8], at: usize) -> SiteRead
         second,
         litres,
     };
-    let mark = r.mark != e.mark.site;
+    let mark = r.mark != m;
     let depot = scan::either(63 < first, 63 < second);
     let none = litres == 0;
     SiteRead {
@@ -42,16 +41,16 @@ pub fn site_at(e: Edition, s: &[u8], at: usize) -> SiteRead
 }
 
 // The records of `n` sites behind the head of `s`, each read once.
-fn sites_by(e: Edition, n: usize, s: &[u8]) -> SitesRead
-    requires { ⌜ (e .litres ≤ 4) × (n ≤ 512) × (4 + siteSize e * n ≤ length (now s)) ⌝ }
-    ensures { λ r. ⌜ r ≡ sitesRead e n (now (s .entry)) ⌝ }
+fn sites_by(m: u64, w: usize, n: usize, s: &[u8]) -> SitesRead
+    requires { ⌜ (w ≤ 4) × (n ≤ 512) × (4 + (4 + w) * n ≤ length (now s)) ⌝ }
+    ensures { λ r. ⌜ r ≡ sitesBy m w n (now (s .entry)) ⌝ }
 {
     let none = Site {
         first: 0,
         second: 0,
         litres: 0,
     };
-    let size = 4 + e.litres;
+    let size = 4 + w;
     let mut sites = [none; 512];
     let mut marks = false;
     let mut depots = false;
@@ -59,7 +58,7 @@ fn sites_by(e: Edition, n: usize, s: &[u8]) -> SitesRead
     let mut at = 4;
     let mut i = 0;
     while i < n {
-        let r = site_at(e, s, at);
+        let r = site_at(m, w, s, at);
         let x = r.site;
         sites[i] = x;
         marks = scan::either(marks, r.mark);
@@ -76,21 +75,15 @@ fn sites_by(e: Edition, n: usize, s: &[u8]) -> SitesRead
     }
 }
 
-// The same. The width of edition 1 is known here, so that it is not asked for at each record.
+// The same, of an edition. The width of edition 1 is a constant of its call, so that the compiled loop does not ask for it at each record.
 pub fn sites(e: Edition, n: usize, s: &[u8]) -> SitesRead
     requires { ⌜ (e .litres ≤ 4) × (n ≤ 512) × (4 + siteSize e * n ≤ length (now s)) ⌝ }
     ensures { λ r. ⌜ r ≡ sitesRead e n (now (s .entry)) ⌝ }
 {
     if e.litres == 2 {
-        let mark = e.mark;
-        let known = Edition {
-            mark,
-            litres: 2,
-            share: e.share,
-        };
-        return sites_by(known, n, s);
+        return sites_by(e.mark.site, 2, n, s);
     }
-    sites_by(e, n, s)
+    sites_by(e.mark.site, e.litres, n, s)
 }
 
 // A list that row `n` refuses.

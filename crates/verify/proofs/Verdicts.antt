@@ -131,13 +131,14 @@ formed list plan n wide deep low places sizes tabled t ws long found v e =
       passed = λ p.
           let f = form→ (net list) (groupsIn list plan) (sharesIn list plan) (sym is ∙ p) in
           let y = ready list plan n wide deep low (f .1) in
+          let sums = found .1 y .sums (found .1 y .broken ∙ f .2) in
           record {
             ready = y;
             shares = f .2;
             listed = found .0;
             tables = tabled;
-            litres = (long, found .1 y .litres);
-            wholes = found .1 y .wholes;
+            litres = (long, sums .0);
+            wholes = sums .1;
           };
     }
   where

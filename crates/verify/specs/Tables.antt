@@ -72,8 +72,7 @@ Wholes list plan wholes = (length wholes ≡ 512) × Holds wholes (whole (net li
 -- what the pass over the sites finds, if the groups are the listed depots
 pub record Tallied (list : ListArray) (plan : PlanArray) (places : List ℕ) (r : Tally) (ws : List ℕ) : Type 0 where
   pub broken : r .broken ≡ sharesBroken (net list) (groupsIn list plan) (sharesIn list plan)
-  pub litres : Litres list places (r .litres)
-  pub wholes : Wholes list plan ws
+  pub sums : r .broken ≡ false → Litres list places (r .litres) × Wholes list plan ws
 
 -- rows 12 to 14, of groups, the listed depots, and whether a share breaks a rule
 abbrev pub formRows : List ℕ → ℕ → Bool → List Row

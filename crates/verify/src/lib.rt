@@ -23,7 +23,7 @@ pub enum Verdict {
     Refused(u8),
 }
 
-// What one pass over the sites finds: the listed depots, whether a share breaks a rule, and W of each group.
+// What one pass over the sites finds: the listed depots, whether a share breaks a rule, and, where none does, W of each group.
 pub struct Tally {
     pub listed: u64,
     pub broken: bool,
@@ -195,40 +195,51 @@ fn is_broken(s: Site, a: u8, b: u8, all: u64, share: u64) -> bool
     scan::either(share < least, most < share)
 }
 
-// One pass over the sites: the listed depots, whether a share breaks a rule, and W of each group; w × q of each site goes to `wholes`. Where the groups are not the listed depots, a site may have no group: it is passed over, and row 13 refuses the plan.
+// One pass over the sites: the listed depots and W of each group; w × q of each site goes to `wholes`. It ends at a share that breaks a rule, and at a site without a group: there the groups are not the listed depots, and row 13 refuses the plan. The plan's shares are lent beside it, so that they are not copied.
 fn add_up(
     list: ListArray,
     plan: PlanArray,
+    shares: &[u64],
     places: &[u8],
     sizes: &[u64],
     wholes: &mut [u64],
 ) -> Tally
-    requires { ⌜ Counted list plan × Tables list plan (now places) (now sizes) × (length (now wholes) ≡ 512) ⌝ }
+    requires { ⌜ Counted list plan × Tables list plan (now places) (now sizes) × (now shares ≡ plan .shares) × (length (now shares) ≡ 512) × (length (now wholes) ≡ 512) ⌝ }
     ensures { λ r. ⌜ (r .listed ≡ setOf (net list .listed) 64) × (Ready list plan → Tallied list plan (now (places .entry)) r (now (wholes .exit))) ⌝ }
 {
-    let n = plan.count;
-    let mut listed: u64 = 0;
-    let mut broken = false;
+    let mut set: u64 = 0;
     let mut litres = [0u64; 64];
     let mut i: usize = 0;
     while i < list.count {
         let s = list.sites[i];
-        listed = name(listed, s);
+        let share = shares[i];
         let a = places[s.first as usize];
         let b = places[s.second as usize];
         let k = later(a, b) as usize;
-        if k < n {
-            let w = litres_of(s);
-            let all = w * sizes[k];
-            broken = scan::either(broken, is_broken(s, a, b, all, plan.shares[i]));
-            litres[k] = litres[k] + w;
-            wholes[i] = all;
+        if plan.count <= k {
+            return Tally {
+                listed: listed(list),
+                broken: true,
+                litres,
+            };
         }
+        let w = litres_of(s);
+        let all = w * sizes[k];
+        if is_broken(s, a, b, all, share) {
+            return Tally {
+                listed: listed(list),
+                broken: true,
+                litres,
+            };
+        }
+        set = name(set, s);
+        litres[k] = litres[k] + w;
+        wholes[i] = all;
         i += 1;
     }
     Tally {
-        listed,
-        broken,
+        listed: set,
+        broken: false,
         litres,
     }
 }
@@ -350,7 +361,8 @@ fn try_form(list: ListArray, plan: PlanArray, wholes: &mut [u64]) -> Form
     let groups = &sets[..n];
     let at = places(groups);
     let q = sizes(groups);
-    let t = add_up(list, plan, &at, &q, wholes);
+    let shares = plan.shares;
+    let t = add_up(list, plan, &shares, &at, &q, wholes);
     let verdict = form_of(groups, t.listed, t.broken);
     let litres = t.litres;
     Form {

@@ -1,45 +1,43 @@
 -- `verify::add_up` meets its contract. The invariant: the set has the depots that the sites passed name, and `Pass` holds of them. Assumes nothing.
 use mathlib.Core.Path.{_≡_, refl, _∙_}
-use mathlib.Core.Logic.{⊎-elim}
 use Prim.Native.Nat.{_-_, _≤_, _<_}
 use native.Mathlib.Omega.{arith}
 use lib.ListN.{length, length-map}
 use Rattle.sets.specs.Set.{setOf}
 use Rattle.verify.proofs.Sites.{site-small, named, named-start, named-more, named-end}
-use Rattle.verify.proofs.Pass.{Pass, pass-start, table-fits, pass-more, pass-over, pass-end}
+use Rattle.verify.proofs.Pass.{Pass, pass-start, table-fits, no-group, broken-here, pass-more, pass-end, pass-broken}
 use borrow.Author.Needs.{needs}
 use Rattle.verify.proofs.add_up.Statement.{statement}
 use Rattle.verify.proofs.add_up.Tie as tie
 
 abbrev Inv-loop : tie.InvT-loop
-Inv-loop places sizes wholes₀ list plan n listed₀ broken₀ litres₀ i₀ wholes listed broken litres i =
-    (i ≤ list .count) × (listed ≡ setOf (named (list .sites) i) 64) × Pass list plan places wholes broken litres i
+Inv-loop plan shares places sizes wholes₀ list set₀ litres₀ i₀ wholes set litres i =
+    (i ≤ list .count) × (set ≡ setOf (named (list .sites) i) 64) × Pass list plan places litres wholes i
 
 abbrev μ-loop : tie.MeasureT-loop
-μ-loop places sizes wholes₀ list plan n listed₀ broken₀ litres₀ i₀ wholes listed broken litres i = list .count - i
+μ-loop plan shares places sizes wholes₀ list set₀ litres₀ i₀ wholes set litres i = list .count - i
 
 loop-holds : tie.Need-loop-holds Inv-loop μ-loop
-loop-holds c = (search needs, named-start (c .before .before .before .args .t1 .sites), pass-start _ _ _ _ (c .before .before .before .pre .2))
+loop-holds c = (search needs, named-start (c .before .before .before .before .args .t1 .sites), pass-start _ _ _ _ (c .before .before .before .before .pre .4))
 
 mul-s : tie.Need-mul-s Inv-loop μ-loop
-mul-s c = omega (arith, c .before .before .before .before .before .pre .0 .sites)
+mul-s c = omega (arith, c .before .before .before .before .before .before .pre .0 .sites)
 
 element-copy-out-s : tie.Need-element-copy-out-s Inv-loop μ-loop
-element-copy-out-s c = omega (arith, c .before .before .before .before .before .pre .0 .sites)
+element-copy-out-s c = omega (arith, c .before .before .before .before .before .before .pre .0 .sites)
 
-name-requires : tie.Need-name-requires Inv-loop μ-loop
-name-requires c κs =
-    let s = c .before .before .before .before .before .before in
-    let list = s .args .t1 in
-    let wide : length (list .sites) ≡ 512 = simp length-map at (s .good .0 .1 .1 .1 .0 .1 .0 .1) in
-    site-small list wide (s .pre .0 .sites) (s .pre .0 .range) (c .before .before .loop .i) (c .before .loop-test .taken)
+mul-share : tie.Need-mul-share Inv-loop μ-loop
+mul-share c = omega (arith, c .before .before .before .before .before .before .before .pre .0 .sites, c .before .before .before .before .before .before .before .pre .3)
+
+shared-slice-read-share : tie.Need-shared-slice-read-share Inv-loop μ-loop
+shared-slice-read-share c = omega (arith, c .before .before .before .before .before .before .before .before .pre .0 .sites, c .before .before .before .before .before .before .before .before .pre .3)
 
 cast-a : tie.Need-cast-a Inv-loop μ-loop
 cast-a c = search needs
 
 shared-slice-read-a : tie.Need-shared-slice-read-a Inv-loop μ-loop
 shared-slice-read-a c =
-    let s = c .before .before .before .before .before .before .before .before .before in
+    let s = c .before .before .before .before .before .before .before .before .before .before in
     let list = s .args .t1 in
     let wide : length (list .sites) ≡ 512 = simp length-map at (s .good .0 .1 .1 .1 .0 .1 .0 .1) in
     let d = site-small list wide (s .pre .0 .sites) (s .pre .0 .range) (c .before .before .before .before .before .loop .i) (c .before .before .before .before .loop-test .taken) in
@@ -50,7 +48,7 @@ cast-b c = search needs
 
 shared-slice-read-b : tie.Need-shared-slice-read-b Inv-loop μ-loop
 shared-slice-read-b c =
-    let s = c .before .before .before .before .before .before .before .before .before .before .before in
+    let s = c .before .before .before .before .before .before .before .before .before .before .before .before in
     let list = s .args .t1 in
     let wide : length (list .sites) ≡ 512 = simp length-map at (s .good .0 .1 .1 .1 .0 .1 .0 .1) in
     let d = site-small list wide (s .pre .0 .sites) (s .pre .0 .range) (c .before .before .before .before .before .before .before .loop .i) (c .before .before .before .before .before .before .loop-test .taken) in
@@ -62,89 +60,102 @@ later-requires c κs = search needs
 cast-k : tie.Need-cast-k Inv-loop μ-loop
 cast-k c = search needs
 
+listed-requires : tie.Need-listed-requires Inv-loop μ-loop
+listed-requires c κs = (c .before .before .before .before .before .before .before .before .before .before .before .before .before .before .before .pre .0 .sites, c .before .before .before .before .before .before .before .before .before .before .before .before .before .before .before .pre .0 .range)
+
+same-length : tie.Need-same-length Inv-loop μ-loop
+same-length c = omega (arith, c .before .before .before .before .before .before .before .before .before .before .before .loop .inv .2 .wide, c .before .before .before .before .before .before .before .before .before .before .before .before .before .before .before .before .pre .4)
+
+returns : tie.Need-returns Inv-loop μ-loop
+returns c =
+    let s = c .before .before .before .before .before .before .before .before .before .before .before .before .before .before .before .before in
+    (c .listed .ensures, pass-broken _ _ _ _ _ refl (λ r. absurd (no-group _ _ _ _ _ (s .pre .2) (s .pre .1) (c .before .before .before .before .before .before .before .before .before .before .before .loop .i) (c .before .before .before .before .before .before .before .before .before .before .loop-test .taken) _ (c .before .before .before .later .ensures) (c .before .if1 .taken) r)))
+
 litres-of-requires : tie.Need-litres-of-requires Inv-loop μ-loop
 litres-of-requires c κs = search needs
 
 mul-all : tie.Need-mul-all Inv-loop μ-loop
-mul-all c = omega (arith, c .before .if1 .taken, c .before .before .before .before .before .before .before .before .before .before .before .before .before .before .pre .0 .groups)
+mul-all c = omega (arith, c .before .if1 .left, c .before .before .before .before .before .before .before .before .before .before .before .before .before .before .before .before .pre .0 .groups)
 
 shared-slice-read-all : tie.Need-shared-slice-read-all Inv-loop μ-loop
-shared-slice-read-all c = omega (arith, c .before .before .if1 .taken, c .before .before .before .before .before .before .before .before .before .before .before .before .before .before .before .pre .0 .groups, c .before .before .before .before .before .before .before .before .before .before .before .before .before .before .before .pre .1 .length-sizes)
+shared-slice-read-all c = omega (arith, c .before .before .if1 .left, c .before .before .before .before .before .before .before .before .before .before .before .before .before .before .before .before .before .pre .0 .groups, c .before .before .before .before .before .before .before .before .before .before .before .before .before .before .before .before .before .pre .1 .length-sizes)
 
 mul-all-2 : tie.Need-mul-all-2 Inv-loop μ-loop
-mul-all-2 c = omega (arith, table-fits _ _ _ _ (c .before .before .before .before .before .before .before .before .before .before .before .before .before .before .before .pre .1) (c .before .before .before .later .result) (c .before .litres-of .result) (c .before .before .if1 .taken) (c .before .litres-of .ensures .1))
-
-mul-is-broken : tie.Need-mul-is-broken Inv-loop μ-loop
-mul-is-broken c = omega (arith, c .before .before .before .before .before .before .before .before .before .before .before .before .before .before .before .pre .0 .sites)
-
-element-copy-out-is-broken : tie.Need-element-copy-out-is-broken Inv-loop μ-loop
-element-copy-out-is-broken c = omega (arith, c .before .before .before .before .before .before .before .before .before .before .before .before .before .before .before .pre .0 .sites)
+mul-all-2 c = omega (arith, table-fits _ _ _ _ (c .before .before .before .before .before .before .before .before .before .before .before .before .before .before .before .before .before .pre .1) (c .before .before .before .before .later .result) (c .before .litres-of .result) (c .before .before .if1 .left) (c .before .litres-of .ensures .1))
 
 is-broken-requires : tie.Need-is-broken-requires Inv-loop μ-loop
 is-broken-requires c κs = search needs
 
-either-requires : tie.Need-either-requires Inv-loop μ-loop
-either-requires c κs = search needs
+listed-requires-2 : tie.Need-listed-requires-2 Inv-loop μ-loop
+listed-requires-2 c κs = (c .before .before .before .before .before .before .before .before .before .before .before .before .before .before .before .before .before .before .before .pre .0 .sites, c .before .before .before .before .before .before .before .before .before .before .before .before .before .before .before .before .before .before .before .pre .0 .range)
+
+same-length-2 : tie.Need-same-length-2 Inv-loop μ-loop
+same-length-2 c = omega (arith, c .before .before .before .before .before .before .before .before .before .before .before .before .before .before .before .loop .inv .2 .wide, c .before .before .before .before .before .before .before .before .before .before .before .before .before .before .before .before .before .before .before .before .pre .4)
+
+returns-2 : tie.Need-returns-2 Inv-loop μ-loop
+returns-2 c =
+    let s = c .before .before .before .before .before .before .before .before .before .before .before .before .before .before .before .before .before .before .before .before in
+    (c .listed2 .ensures, pass-broken _ _ _ _ _ refl (broken-here _ _ _ _ _ (s .pre .2) (s .pre .1) (c .before .before .before .before .before .before .before .before .before .before .before .before .before .before .before .loop .i) (c .before .before .before .before .before .before .before .before .before .before .before .before .before .before .loop-test .taken) (c .before .before .before .before .before .before .before .later .result) (c .before .before .before .before .before .before .before .later .ensures) (c .before .before .before .before .litres-of .result) (c .before .before .before .before .litres-of .ensures) _ (c .before .before .is-broken .ensures) (c .before .if2 .taken)))
+
+name-requires : tie.Need-name-requires Inv-loop μ-loop
+name-requires c κs =
+    let s = c .before .before .before .before .before .before .before .before .before .before .before .before .before .before .before .before .before .before .before in
+    let list = s .args .t1 in
+    let wide : length (list .sites) ≡ 512 = simp length-map at (s .good .0 .1 .1 .1 .0 .1 .0 .1) in
+    let d = site-small list wide (s .pre .0 .sites) (s .pre .0 .range) (c .before .before .before .before .before .before .before .before .before .before .before .before .before .before .loop .i) (c .before .before .before .before .before .before .before .before .before .before .before .before .before .loop-test .taken) in
+    d
 
 mul-litres : tie.Need-mul-litres Inv-loop μ-loop
-mul-litres c = omega (arith, c .before .before .before .before .before .if1 .taken, c .before .before .before .before .before .before .before .before .before .before .before .before .before .before .before .before .before .before .pre .0 .groups, c .before .before .before .before .before .before .before .before .before .before .before .before .before .before .loop .inv .2 .lengths .1)
+mul-litres c = omega (arith, c .before .before .before .before .before .if1 .left, c .before .before .before .before .before .before .before .before .before .before .before .before .before .before .before .before .before .before .before .before .pre .0 .groups, c .before .before .before .before .before .before .before .before .before .before .before .before .before .before .before .loop .inv .2 .litres-is .wide)
 
 array-read-litres : tie.Need-array-read-litres Inv-loop μ-loop
-array-read-litres c = omega (arith, c .before .before .before .before .before .if1 .taken, c .before .before .before .before .before .before .before .before .before .before .before .before .before .before .before .before .before .before .pre .0 .groups, c .before .before .before .before .before .before .before .before .before .before .before .before .before .before .loop .inv .2 .lengths .1)
+array-read-litres c = omega (arith, c .before .before .before .before .before .if1 .left, c .before .before .before .before .before .before .before .before .before .before .before .before .before .before .before .before .before .before .before .before .pre .0 .groups, c .before .before .before .before .before .before .before .before .before .before .before .before .before .before .before .loop .inv .2 .litres-is .wide)
 
 add-litres : tie.Need-add-litres Inv-loop μ-loop
 add-litres c =
-    let k : c .before .before .before .before .before .before .later .result < 64 = omega (arith, c .before .before .before .before .before .if1 .taken, c .before .before .before .before .before .before .before .before .before .before .before .before .before .before .before .before .before .before .pre .0 .groups) in
-    omega (arith, c .before .before .before .before .before .before .before .before .before .before .before .before .before .before .loop .inv .2 .low _ k, c .before .before .before .before .litres-of .ensures .1, c .before .before .before .before .before .before .before .before .before .before .before .before .before .before .before .before .before .before .pre .0 .sites)
+    let k : c .before .before .before .before .before .before .before .later .result < 64 = omega (arith, c .before .before .before .before .before .if1 .left, c .before .before .before .before .before .before .before .before .before .before .before .before .before .before .before .before .before .before .before .before .pre .0 .groups) in
+    omega (arith, c .before .before .before .before .before .before .before .before .before .before .before .before .before .before .before .loop .inv .2 .litres-is .low _ k, c .before .before .before .before .litres-of .ensures .1, c .before .before .before .before .before .before .before .before .before .before .before .before .before .before .before .before .before .before .before .before .pre .0 .sites)
 
 mul-litres-2 : tie.Need-mul-litres-2 Inv-loop μ-loop
-mul-litres-2 c = omega (arith, c .before .before .before .before .before .if1 .taken, c .before .before .before .before .before .before .before .before .before .before .before .before .before .before .before .before .before .before .pre .0 .groups, c .before .before .before .before .before .before .before .before .before .before .before .before .before .before .loop .inv .2 .lengths .1)
+mul-litres-2 c = omega (arith, c .before .before .before .before .before .if1 .left, c .before .before .before .before .before .before .before .before .before .before .before .before .before .before .before .before .before .before .before .before .pre .0 .groups, c .before .before .before .before .before .before .before .before .before .before .before .before .before .before .before .loop .inv .2 .litres-is .wide)
 
 array-write-litres : tie.Need-array-write-litres Inv-loop μ-loop
-array-write-litres c = omega (arith, c .before .before .before .before .before .if1 .taken, c .before .before .before .before .before .before .before .before .before .before .before .before .before .before .before .before .before .before .pre .0 .groups, c .before .before .before .before .before .before .before .before .before .before .before .before .before .before .loop .inv .2 .lengths .1)
+array-write-litres c = omega (arith, c .before .before .before .before .before .if1 .left, c .before .before .before .before .before .before .before .before .before .before .before .before .before .before .before .before .before .before .before .before .pre .0 .groups, c .before .before .before .before .before .before .before .before .before .before .before .before .before .before .before .loop .inv .2 .litres-is .wide)
 
 mul-wholes : tie.Need-mul-wholes Inv-loop μ-loop
-mul-wholes c = omega (arith, c .before .before .before .before .before .before .before .before .before .before .before .before .before .before .before .before .before .before .pre .0 .sites, c .before .before .before .before .before .before .before .before .before .before .before .before .before .before .loop .inv .2 .lengths .0)
+mul-wholes c = omega (arith, c .before .before .before .before .before .before .before .before .before .before .before .before .before .before .before .before .before .before .before .before .pre .0 .sites, c .before .before .before .before .before .before .before .before .before .before .before .before .before .before .before .loop .inv .2 .wide)
 
 slice-write-wholes : tie.Need-slice-write-wholes Inv-loop μ-loop
-slice-write-wholes c = omega (arith, c .before .before .before .before .before .before .before .before .before .before .before .before .before .before .before .before .before .before .pre .0 .sites, c .before .before .before .before .before .before .before .before .before .before .before .before .before .before .loop .inv .2 .lengths .0)
+slice-write-wholes c = omega (arith, c .before .before .before .before .before .before .before .before .before .before .before .before .before .before .before .before .before .before .before .before .pre .0 .sites, c .before .before .before .before .before .before .before .before .before .before .before .before .before .before .before .loop .inv .2 .wide)
 
 add-i : tie.Need-add-i Inv-loop μ-loop
-add-i c = omega (arith, c .before .before .before .before .before .before .before .before .before .before .before .before .before .pre .0 .sites)
+add-i c = omega (arith, c .before .before .before .before .before .before .before .before .before .before .before .before .before .before .before .before .before .before .before .before .pre .0 .sites)
 
 loop-less : tie.Need-loop-less Inv-loop μ-loop
 loop-less c = search needs
 
 loop-again : tie.Need-loop-again Inv-loop μ-loop
 loop-again c =
-    let s = c .before .before .before .before .before .before .before .before .before .before .before .before .before in
+    let s = c .before .before .before .before .before .before .before .before .before .before .before .before .before .before .before .before .before .before .before .before in
     let list = s .args .t1 in
-    let plan = s .args .t2 in
-    let i = c .before .before .before .before .before .before .before .before .before .loop .i in
-    let l = c .before .before .before .before .before .before .before .before .loop-test .taken in
-    let h = c .before .before .before .before .before .before .before .before .before .loop .inv in
-    let k = c .before .later in (
+    let h = c .before .before .before .before .before .before .before .before .before .before .before .before .before .before .before .loop .inv in (
       search needs,
-      c .before .before .before .before .before .before .name .ensures ∙ named-more (list .sites) i _ (h .1),
-      ⊎-elim
-          (λ y.
-          pass-more list plan (s .args .places .now) (s .args .sizes .now) (s .pre .1) i l _ _ _ _ _ _ (h .2) (k .result) (k .ensures) (y .1 .result) (y .4 .result)
-          (omega (arith, y .0 .taken, s .pre .0 .groups)) (s .pre .0 .sites) (y .1 .ensures) (y .4 .ensures) (y .6) (y .7 ∙ y .5 .ensures) (y .8))
-          (λ y. pass-over list plan (s .args .places .now) (s .args .sizes .now) (s .pre .1) i l _ _ _ _ _ _ (h .2) (k .result) (k .ensures) (y .0 .left) (y .1) (y .2) (y .3))
-          (c .if1 .came),
+      c .name .ensures ∙ named-more (list .sites) (c .before .before .before .before .before .before .before .before .before .before .before .before .before .before .before .loop .i) _ (h .1),
+      pass-more list (s .args .plan) (s .args .shares .now) (s .args .places .now) (s .args .sizes .now) (s .pre .2) (s .pre .1) (c .before .before .before .before .before .before .before .before .before .before .before .before .before .before .before .loop .i) (c .before .before .before .before .before .before .before .before .before .before .before .before .before .before .loop-test .taken) (c .before .before .before .before .before .before .before .later .result) (c .before .before .before .before .before .before .before .later .ensures) (c .before .before .before .before .litres-of .result) (c .before .before .before .before .litres-of .ensures) _ (c .before .before .is-broken .ensures)
+          _ _ _ _ (h .2) (c .before .if2 .left) (omega (arith, c .before .before .before .before .before .if1 .left, s .pre .0 .groups)) (s .pre .0 .sites) refl refl,
     )
 
-same-length : tie.Need-same-length Inv-loop μ-loop
-same-length c = omega (arith, c .before .loop .inv .2 .lengths .0, c .before .before .before .before .before .pre .2)
+same-length-3 : tie.Need-same-length-3 Inv-loop μ-loop
+same-length-3 c = omega (arith, c .before .loop .inv .2 .wide, c .before .before .before .before .before .before .pre .4)
 
-returns : tie.Need-returns Inv-loop μ-loop
-returns c =
-    let s = c .before .before .before .before .before in
+returns-3 : tie.Need-returns-3 Inv-loop μ-loop
+returns-3 c =
+    let s = c .before .before .before .before .before .before in
     let list = s .args .t1 in
     let wide : length (list .sites) ≡ 512 = simp length-map at (s .good .0 .1 .1 .1 .0 .1 .0 .1) in
     let h = c .before .loop .inv in (
       h .1 ∙ named-end list wide (s .pre .0 .sites) (c .before .loop .i) (omega arith),
-      pass-end list (s .args .t2) (s .args .places .now) (s .args .sizes .now) (s .pre .1) _ _ _ (c .before .loop .i) (omega arith) (h .2) _ refl refl,
+      pass-end list (s .args .plan) (s .args .places .now) (s .args .sizes .now) (s .pre .1) _ _ (c .before .loop .i) (omega arith) (h .2) _ refl refl,
     )
 
 pub add-up-spec : {M : Type 1} → statement M
@@ -156,21 +167,26 @@ add-up-spec =
     loop-holds
     mul-s
     element-copy-out-s
-    name-requires
+    mul-share
+    shared-slice-read-share
     cast-a
     shared-slice-read-a
     cast-b
     shared-slice-read-b
     later-requires
     cast-k
+    listed-requires
+    same-length
+    returns
     litres-of-requires
     mul-all
     shared-slice-read-all
     mul-all-2
-    mul-is-broken
-    element-copy-out-is-broken
     is-broken-requires
-    either-requires
+    listed-requires-2
+    same-length-2
+    returns-2
+    name-requires
     mul-litres
     array-read-litres
     add-litres
@@ -181,5 +197,5 @@ add-up-spec =
     add-i
     loop-less
     loop-again
-    same-length
-    returns)
+    same-length-3
+    returns-3)

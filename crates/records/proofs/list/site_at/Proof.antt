@@ -23,7 +23,7 @@ cast-second c = search needs
 cast-litres : tie.Need-cast-litres
 cast-litres c =
     let a = c .before .before .before .before .before .args in
-    let k = field-below (a .s .now) (a .at + 2) (2 + a .e .litres) 6 (λ i. c .before .before .before .before .shared-slice-known .given i .fits) (omega arith) in
+    let k = field-below (a .s .now) (a .at + 2) (2 + a .w) 6 (λ i. c .before .before .before .before .shared-slice-known .given i .fits) (omega arith) in
     rw (c .before .before .before .record-at .ensures) (omega (arith, k))
 
 either-requires : tie.Need-either-requires
@@ -31,17 +31,17 @@ either-requires c κs = search needs
 
 returns : tie.Need-returns
 returns c =
-    let a = c .before .before .before .before .before .before .before .before .args in
-    let r = c .before .before .before .before .before .before .record-at .ensures in
-    let b : Bytes (a .s .now) = λ i. c .before .before .before .before .before .before .before .shared-slice-known .given i .fits in
-    let h = c .before .before .before .before .before .before .before .before .pre .1 in
+    let a = c .before .before .before .before .before .before .before .args in
+    let r = c .before .before .before .before .before .record-at .ensures in
+    let b : Bytes (a .s .now) = λ i. c .before .before .before .before .before .before .shared-slice-known .given i .fits in
+    let h = c .before .before .before .before .before .before .before .pre .1 in
     rw (
       c .either .ensures,
       r,
-      body-first (a .s .now) (a .at) (a .e .litres) b h,
-      body-second (a .s .now) (a .at) (a .e .litres) b h,
-      body-litres (a .s .now) (a .at) (a .e .litres) b h,
-      body-mark (a .s .now) (a .at) (a .e .litres) b h,
+      body-first (a .s .now) (a .at) (a .w) b h,
+      body-second (a .s .now) (a .at) (a .w) b h,
+      body-litres (a .s .now) (a .at) (a .w) b h,
+      body-mark (a .s .now) (a .at) (a .w) b h,
     )
 
 pub site-at-spec : {M : Type 1} → statement M

@@ -10,40 +10,39 @@ use lib.ListN.{length, take, drop, getD, replicate, length-map}
 use Rattle.sets.specs.Sum.{any}
 use Rattle.density.specs.Network.{noSite}
 use Rattle.density.specs.declared.Site.{Site}
-use Rattle.records.specs.declared.Edition.{Edition}
 use Rattle.records.specs.declared.SiteRead.{SiteRead}
 use Rattle.records.specs.Answer.{siteRead}
 use Rattle.records.specs.Record.{records, wrongMark}
-use Rattle.records.specs.Format.{siteSize, siteOf, wrongDepot, noLitres}
+use Rattle.records.specs.Format.{siteOf, wrongDepot, noLitres}
 use Rattle.records.proofs.Records.{mul-room, length-records, records-from, fill-next, fill-all, test-next, test-all, any-none}
 use Rattle.records.proofs.list.sites_by.Statement.{statement}
 use Rattle.records.proofs.list.sites_by.Tie as tie
 
 -- the records, the sites, and what a test says of the first i records
-abbrev recs : Edition → ℕ → List ℕ → List (List ℕ)
-recs e n s = records (siteSize e) n (drop 4 s)
+abbrev recs : ℕ → ℕ → List ℕ → List (List ℕ)
+recs w n s = records (4 + w) n (drop 4 s)
 
-abbrev all : Edition → ℕ → List ℕ → List Site
-all e n s = map (siteOf (e .litres)) (recs e n s)
+abbrev all : ℕ → ℕ → List ℕ → List Site
+all w n s = map (siteOf w) (recs w n s)
 
-abbrev tested : (List ℕ → Bool) → Edition → ℕ → List ℕ → ℕ → Bool
-tested p e n s i = any (λ j. p (getD (recs e n s) j [])) i
+abbrev tested : (List ℕ → Bool) → ℕ → ℕ → List ℕ → ℕ → Bool
+tested p w n s i = any (λ j. p (getD (recs w n s) j [])) i
 
 abbrev Inv-loop : tie.InvT-loop
-Inv-loop e n s size sites₀ marks₀ depots₀ litres₀ at₀ i₀ sites marks depots litres at i =
+Inv-loop m w n s size sites₀ marks₀ depots₀ litres₀ at₀ i₀ sites marks depots litres at i =
     (i ≤ n)
-    × (at ≡ 4 + siteSize e * i)
-    × (sites ≡ take i (all e n s) ++ replicate (512 - i) noSite)
-    × (marks ≡ tested (wrongMark (e .mark .site)) e n s i)
-    × (depots ≡ tested wrongDepot e n s i)
-    × (litres ≡ tested (noLitres (e .litres)) e n s i)
+    × (at ≡ 4 + (4 + w) * i)
+    × (sites ≡ take i (all w n s) ++ replicate (512 - i) noSite)
+    × (marks ≡ tested (wrongMark m) w n s i)
+    × (depots ≡ tested wrongDepot w n s i)
+    × (litres ≡ tested (noLitres w) w n s i)
 
 abbrev μ-loop : tie.MeasureT-loop
-μ-loop e n s size sites₀ marks₀ depots₀ litres₀ at₀ i₀ sites marks depots litres at i = n - i
+μ-loop m w n s size sites₀ marks₀ depots₀ litres₀ at₀ i₀ sites marks depots litres at i = n - i
 
 room : (c : tie.In-loop Inv-loop μ-loop)
-    → c .before .loop .at + siteSize (c .before .before .before .before .args .e) ≤ length (c .before .before .before .before .args .s .now)
-room c = omega (arith, mul-room (siteSize (c .before .before .before .before .args .e)) (c .loop-test .taken))
+    → c .before .loop .at + (4 + c .before .before .before .args .w) ≤ length (c .before .before .before .args .s .now)
+room c = omega (arith, mul-room ((4 + c .before .before .before .args .w)) (c .loop-test .taken))
 
 add-size : tie.Need-add-size Inv-loop μ-loop
 add-size c = omega arith
@@ -82,33 +81,33 @@ loop-again : tie.Need-loop-again Inv-loop μ-loop
 loop-again c =
     let t = c .before .before .before .before .before in
     let l = t .before .loop in
-    let a = t .before .before .before .before .args in
-    let rs = recs (a .e) (a .n) (a .s .now) in
+    let a = t .before .before .before .args in
+    let rs = recs (a .w) (a .n) (a .s .now) in
     let h : l .i < a .n = t .loop-test .taken in
-    let at-i : siteRead (a .e) (take (siteSize (a .e)) (drop (l .at) (a .s .now))) ≡ siteRead (a .e) (getD rs (l .i) []) =
-    rw (records-from (siteSize (a .e)) 4 (a .s .now) h, l .inv .1) in
+    let at-i : siteRead (a .m) (a .w) (take (4 + a .w) (drop (l .at) (a .s .now))) ≡ siteRead (a .m) (a .w) (getD rs (l .i) []) =
+    rw (records-from (4 + a .w) 4 (a .s .now) h, l .inv .1) in
     let r = c .before .before .before .before .site-at .ensures ∙ at-i in
     let long : l .i < length rs = rw length-records h in (
       omega arith,
       rw (add-one, mul-suc) (omega arith),
-      fill-next (siteOf (a .e .litres)) rs (l .i) 512 noSite long (omega arith) (l .inv .2) (ap (λ (x : SiteRead). x .site) r),
-      test-next (wrongMark (a .e .mark .site)) rs (l .i) (l .inv .3) (ap (λ (x : SiteRead). x .mark) r) (c .before .before .either .ensures),
+      fill-next (siteOf (a .w)) rs (l .i) 512 noSite long (omega arith) (l .inv .2) (ap (λ (x : SiteRead). x .site) r),
+      test-next (wrongMark (a .m)) rs (l .i) (l .inv .3) (ap (λ (x : SiteRead). x .mark) r) (c .before .before .either .ensures),
       test-next wrongDepot rs (l .i) (l .inv .4) (ap (λ (x : SiteRead). x .depot) r) (c .before .either2 .ensures),
-      test-next (noLitres (a .e .litres)) rs (l .i) (l .inv .5) (ap (λ (x : SiteRead). x .litres) r) (c .either3 .ensures),
+      test-next (noLitres (a .w)) rs (l .i) (l .inv .5) (ap (λ (x : SiteRead). x .litres) r) (c .either3 .ensures),
     )
 
 returns : tie.Need-returns Inv-loop μ-loop
 returns c =
     let l = c .before .loop in
-    let a = c .before .before .before .before .args in
-    let rs = recs (a .e) (a .n) (a .s .now) in
-    let many : length rs ≡ l .i = length-records (siteSize (a .e)) (a .n) (drop 4 (a .s .now)) ∙ omega arith in
-    let long : length (map (siteOf (a .e .litres)) rs) ≡ l .i = length-map rs (siteOf (a .e .litres)) ∙ many in
+    let a = c .before .before .before .args in
+    let rs = recs (a .w) (a .n) (a .s .now) in
+    let many : length rs ≡ l .i = length-records (4 + a .w) (a .n) (drop 4 (a .s .now)) ∙ omega arith in
+    let long : length (map (siteOf (a .w)) rs) ≡ l .i = length-map rs (siteOf (a .w)) ∙ many in
     cc (
-      fill-all (map (siteOf (a .e .litres)) rs) 512 noSite long (l .inv .2),
-      test-all (wrongMark (a .e .mark .site)) rs many (l .inv .3),
+      fill-all (map (siteOf (a .w)) rs) 512 noSite long (l .inv .2),
+      test-all (wrongMark (a .m)) rs many (l .inv .3),
       test-all wrongDepot rs many (l .inv .4),
-      test-all (noLitres (a .e .litres)) rs many (l .inv .5),
+      test-all (noLitres (a .w)) rs many (l .inv .5),
     )
 
 pub sites-by-spec : {M : Type 1} → statement M
