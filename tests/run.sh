@@ -32,10 +32,12 @@ if [ ! -x target/bin/plan ] || [ ! -x target/bin/console ]; then
 fi
 bash tests/plan.sh
 
-# the C program
-"${CC:-cc}" -std=c99 -Wall -Wextra -Werror -O2 -Iinclude tests/c/check_t.c "$SULGHETI_LIB/libengine.a" -o target/check_t
-target/check_t || { echo "check_t: failed, status $?"; exit 1; }
-echo "check_t: T's plan passes from C"
+# the C programs
+for name in check_t desk_t; do
+    "${CC:-cc}" -std=c99 -Wall -Wextra -Werror -O2 -Iinclude "tests/c/$name.c" "$SULGHETI_LIB/libengine.a" -o "target/$name"
+    "target/$name" || { echo "$name: failed, status $?"; exit 1; }
+done
+echo "check_t, desk_t: T's plan passes, and is held, from C"
 
 # the wrapper's example, then the cases
 export CARGO_TARGET_DIR=$PWD/target/cargo

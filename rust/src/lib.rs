@@ -1,7 +1,7 @@
 //! Safe calls of the proved engine for fair-load plans.
 //!
 //! A list and a plan are bytes as document 01 lays them out. The engine keeps nothing between calls
-//! and allocates nothing.
+//! and allocates nothing; a [`Desk`] owns the bytes of its store and its table.
 //!
 //! ```
 //! // One site of 10 litres that depots 0 and 1 supply.
@@ -10,6 +10,14 @@
 //! let n = sulgheti::make(&list, &mut out).unwrap();
 //! assert_eq!(sulgheti::check(&list, &out[..n]), Ok(()));
 //! assert_eq!(sulgheti::check(&list, &out[..n - 1]), Err(sulgheti::Row(10)));
+//!
+//! let mut desk = sulgheti::Desk::new(100);
+//! desk.load(&list).unwrap();
+//! assert_eq!(desk.depot(0), Err(sulgheti::Row(17)));
+//! desk.propose(&out[..n]).unwrap();
+//! assert_eq!(desk.depot(0), Ok((10, 2)));
+//! desk.change(0, 11).unwrap();
+//! assert_eq!(desk.propose(&out[..n]), Err(sulgheti::Row(15)));
 //! ```
 
 use std::fmt;
@@ -20,11 +28,87 @@ pub const LIST_MAX: usize = 4 + 6 * 512;
 /// The longest plan in bytes: 64 groups and 512 sites. A buffer of this length is never too short.
 pub const PLAN_MAX: usize = 5 + 10 * 64 + 6 * 512;
 
+/// The bytes of a desk's store.
+pub const STORE_BYTES: usize = 24 + 8 * 64 + 4 * 512;
+
+/// The bytes of a place of a desk's table.
+pub const PLACE_BYTES: usize = 4;
+
 /// The functions of the archive, as `include/sulgheti.h` has them.
 pub mod ffi {
     extern "C" {
         pub fn sulgheti_check(list: *const u8, list_len: usize, plan: *const u8, plan_len: usize) -> i64;
         pub fn sulgheti_make(list: *const u8, list_len: usize, out: *mut u8, out_len: usize) -> i64;
+        pub fn sulgheti_fresh(store: *mut u8, store_len: usize) -> i64;
+        pub fn sulgheti_load(
+            store: *mut u8,
+            store_len: usize,
+            table: *mut u8,
+            table_len: usize,
+            list: *const u8,
+            list_len: usize,
+        ) -> i64;
+        pub fn sulgheti_change(
+            store: *mut u8,
+            store_len: usize,
+            table: *mut u8,
+            table_len: usize,
+            site: usize,
+            litres: u16,
+        ) -> i64;
+        pub fn sulgheti_add(
+            store: *mut u8,
+            store_len: usize,
+            table: *mut u8,
+            table_len: usize,
+            first: u8,
+            second: u8,
+            litres: u16,
+        ) -> i64;
+        pub fn sulgheti_propose(
+            store: *mut u8,
+            store_len: usize,
+            table: *mut u8,
+            table_len: usize,
+            plan: *const u8,
+            plan_len: usize,
+        ) -> i64;
+        pub fn sulgheti_share(
+            store: *mut u8,
+            store_len: usize,
+            table: *mut u8,
+            table_len: usize,
+            site: usize,
+            share: *mut u64,
+            whole: *mut u64,
+        ) -> i64;
+        pub fn sulgheti_depot(
+            store: *mut u8,
+            store_len: usize,
+            table: *mut u8,
+            table_len: usize,
+            depot: u8,
+            litres: *mut u64,
+            size: *mut u64,
+        ) -> i64;
+        pub fn sulgheti_difference(
+            store: *mut u8,
+            store_len: usize,
+            table: *mut u8,
+            table_len: usize,
+            a: u8,
+            b: u8,
+            difference: *mut i64,
+            divisor: *mut u64,
+        ) -> i64;
+        pub fn sulgheti_written(
+            store: *mut u8,
+            store_len: usize,
+            table: *mut u8,
+            table_len: usize,
+            buffer: *mut u8,
+            buffer_len: usize,
+        ) -> i64;
     }
 }
 
@@ -43,9 +127,111 @@ pub fn make(list: &[u8], out: &mut [u8]) -> Result<usize, Row> {
     taken(answer)
 }
 
+/// A desk: a store and a table of places for sites, both in bytes that it owns.
+///
+/// A refused call changes nothing. Row 0 is answered only by a desk made of foreign bytes.
+#[derive(Clone, Debug, PartialEq, Eq)]
+pub struct Desk {
+    store: Vec<u8>,
+    table: Vec<u8>,
+}
+
+impl Desk {
+    /// An empty desk with a table of so many places; more than 512 are of no use.
+    pub fn new(places: usize) -> Desk {
+        let mut store = vec![0; STORE_BYTES];
+        // SAFETY: the store is valid for its length.
+        let answer = unsafe { ffi::sulgheti_fresh(store.as_mut_ptr(), store.len()) };
+        debug_assert_eq!(answer, 0);
+        Desk { store, table: vec![0; PLACE_BYTES * places] }
+    }
+
+    /// A desk of bytes that were kept, of any content: every call tries row 0.
+    pub fn from_bytes(store: Vec<u8>, table: Vec<u8>) -> Desk {
+        Desk { store, table }
+    }
+
+    /// The bytes of the store and of the table, as `include/sulgheti.h` lays them out.
+    pub fn bytes(&self) -> (&[u8], &[u8]) {
+        (&self.store, &self.table)
+    }
+
+    /// The pointers and lengths of the store and of the table.
+    fn parts(&mut self) -> (*mut u8, usize, *mut u8, usize) {
+        (self.store.as_mut_ptr(), self.store.len(), self.table.as_mut_ptr(), self.table.len())
+    }
+
+    /// The list becomes the desk's, and no plan is held. Refused by rows 1 to 6.
+    pub fn load(&mut self, list: &[u8]) -> Result<(), Row> {
+        let (store, n, table, m) = self.parts();
+        // SAFETY: here and below, all parts are valid for their lengths and overlap nothing.
+        taken(unsafe { ffi::sulgheti_load(store, n, table, m, list.as_ptr(), list.len()) }).map(|_| ())
+    }
+
+    /// A site gets other litres, and no plan is held. Refused by rows 0, 6 and 18.
+    pub fn change(&mut self, site: usize, litres: u16) -> Result<(), Row> {
+        let (store, n, table, m) = self.parts();
+        // SAFETY: as above.
+        taken(unsafe { ffi::sulgheti_change(store, n, table, m, site, litres) }).map(|_| ())
+    }
+
+    /// A site joins the end, and no plan is held. Refused by rows 0, 2, 5 and 6.
+    pub fn add(&mut self, first: u8, second: u8, litres: u16) -> Result<(), Row> {
+        let (store, n, table, m) = self.parts();
+        // SAFETY: as above.
+        taken(unsafe { ffi::sulgheti_add(store, n, table, m, first, second, litres) }).map(|_| ())
+    }
+
+    /// A plan that is true of the list held becomes the plan held. Refused by rows 0 and 7 to 16.
+    pub fn propose(&mut self, plan: &[u8]) -> Result<(), Row> {
+        let (store, n, table, m) = self.parts();
+        // SAFETY: as above.
+        taken(unsafe { ffi::sulgheti_propose(store, n, table, m, plan.as_ptr(), plan.len()) }).map(|_| ())
+    }
+
+    /// A site's s and w x q. Refused by rows 0, 17 and 18.
+    pub fn share(&mut self, site: usize) -> Result<(u64, u64), Row> {
+        let (store, n, table, m) = self.parts();
+        let (mut share, mut whole) = (0, 0);
+        // SAFETY: as above.
+        taken(unsafe { ffi::sulgheti_share(store, n, table, m, site, &mut share, &mut whole) })?;
+        Ok((share, whole))
+    }
+
+    /// A depot's W and q. Refused by rows 0, 17 and 19.
+    pub fn depot(&mut self, depot: u8) -> Result<(u64, u64), Row> {
+        let (store, n, table, m) = self.parts();
+        let (mut litres, mut size) = (0, 0);
+        // SAFETY: as above.
+        taken(unsafe { ffi::sulgheti_depot(store, n, table, m, depot, &mut litres, &mut size) })?;
+        Ok((litres, size))
+    }
+
+    /// W of a x q of b less W of b x q of a, and the divisor q of a x q of b. Refused by rows 0, 17 and 19.
+    pub fn difference(&mut self, a: u8, b: u8) -> Result<(i64, u64), Row> {
+        let (store, n, table, m) = self.parts();
+        let (mut difference, mut divisor) = (0, 0);
+        // SAFETY: as above.
+        taken(unsafe { ffi::sulgheti_difference(store, n, table, m, a, b, &mut difference, &mut divisor) })?;
+        Ok((difference, divisor))
+    }
+
+    /// The plan held is written to the front of `buffer`; answers its length. Refused by rows 0, 17 and 20.
+    pub fn written(&mut self, buffer: &mut [u8]) -> Result<usize, Row> {
+        let (store, n, table, m) = self.parts();
+        // SAFETY: as above.
+        taken(unsafe { ffi::sulgheti_written(store, n, table, m, buffer.as_mut_ptr(), buffer.len()) })
+    }
+}
+
+/// Row 0, which with a minus sign would be 0.
+const CORRUPT: i64 = -256;
+
 /// An answer taken apart: a figure, or the refusing row below zero.
 fn taken(answer: i64) -> Result<usize, Row> {
-    if answer < 0 {
+    if answer == CORRUPT {
+        Err(Row(0))
+    } else if answer < 0 {
         Err(Row(answer.unsigned_abs() as u8))
     } else {
         Ok(answer as usize)

@@ -2,6 +2,7 @@
 
 use sulgheti::ffi;
 
+use crate::book::Call;
 use crate::rng::Rng;
 
 pub struct Lent {
@@ -33,6 +34,16 @@ impl Lent {
         self.all[..self.start] == self.before[..self.start] && self.all[from..] == self.before[from..]
     }
 
+    /// Whether both guards are as they were.
+    pub fn kept_around(&self) -> bool {
+        let end = self.start + self.len;
+        self.all[..self.start] == self.before[..self.start] && self.all[end..] == self.before[end..]
+    }
+
+    fn at_mut(&mut self) -> *mut u8 {
+        self.all[self.start..].as_mut_ptr()
+    }
+
     fn at(&self) -> *const u8 {
         self.all[self.start..].as_ptr()
     }
@@ -45,5 +56,39 @@ pub fn check(list: &Lent, plan: &Lent) -> i64 {
 
 pub fn make(list: &Lent, out: &mut Lent) -> i64 {
     // SAFETY: both are valid for their lengths and do not overlap.
-    unsafe { ffi::sulgheti_make(list.at(), list.len, out.all[out.start..].as_mut_ptr(), out.len) }
+    unsafe { ffi::sulgheti_make(list.at(), list.len, out.at_mut(), out.len) }
+}
+
+/// A desk's answer, and what stands where its figures go.
+#[derive(Clone, Copy, Debug, PartialEq, Eq)]
+pub struct Reply {
+    pub code: i64,
+    pub first: u64,
+    pub second: u64,
+    pub difference: i64,
+}
+
+/// A desk call; `given` is a load's list or a proposal's plan, `figures` what stood where the figures go.
+pub fn desk(call: &Call, store: &mut Lent, table: &mut Lent, given: &Lent, buffer: &mut Lent, figures: Reply) -> Reply {
+    let mut r = figures;
+    let (s, n, t, m) = (store.at_mut(), store.len, table.at_mut(), table.len);
+    // SAFETY: all are valid for their lengths and do not overlap.
+    r.code = unsafe {
+        match *call {
+            Call::Load(_) => ffi::sulgheti_load(s, n, t, m, given.at(), given.len),
+            Call::Change(site, litres) => ffi::sulgheti_change(s, n, t, m, site, litres),
+            Call::Add(first, second, litres) => ffi::sulgheti_add(s, n, t, m, first, second, litres),
+            Call::Propose(_) => ffi::sulgheti_propose(s, n, t, m, given.at(), given.len),
+            Call::Share(site) => ffi::sulgheti_share(s, n, t, m, site, &mut r.first, &mut r.second),
+            Call::Depot(depot) => ffi::sulgheti_depot(s, n, t, m, depot, &mut r.first, &mut r.second),
+            Call::Difference(a, b) => ffi::sulgheti_difference(s, n, t, m, a, b, &mut r.difference, &mut r.second),
+            Call::Written(_) => ffi::sulgheti_written(s, n, t, m, buffer.at_mut(), buffer.len),
+        }
+    };
+    r
+}
+
+pub fn fresh(store: &mut Lent) -> i64 {
+    // SAFETY: the store is valid for its length.
+    unsafe { ffi::sulgheti_fresh(store.at_mut(), store.len) }
 }

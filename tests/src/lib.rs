@@ -3,10 +3,13 @@
 //! - `reference`: the reader and the rows, literally;
 //! - `decompose` over `flow`: the groups by minimum cuts and by a count over all sets, shares by a flow;
 //! - `families`, `known`: lists; `damage`, `near`: what is done to them and to their plans;
-//! - `lent`, `run`: calls with guard bytes, and the comparison.
+//! - `lent`, `run`: calls with guard bytes, and the comparison;
+//! - `book`, `desk`: the plain book, and desk calls beside it.
 
+pub mod book;
 pub mod damage;
 pub mod decompose;
+pub mod desk;
 pub mod families;
 pub mod flow;
 pub mod known;

@@ -3,12 +3,14 @@
 //!     engine-tests [--cases N] [--seed S]
 //!
 //! First what is fixed: document 01's lists and examples, every byte of small inputs changed, all small
-//! networks with all plans, the largest lists, every pair of rows. Then random cases, N in all.
+//! networks with all plans, the largest lists, every pair of rows. Then random cases, N in all, and desk calls, a
+//! quarter as many and at least 60,000.
 
 use std::time::Instant;
 
 use engine_tests::damage::{reordered, spoil, Base};
 use engine_tests::decompose::shares;
+use engine_tests::desk;
 use engine_tests::families::{random, scattered, union, Extent, FAMILIES, LARGEST};
 use engine_tests::known;
 use engine_tests::near::{miss, next_season};
@@ -52,6 +54,11 @@ fn main() {
             random_list(run);
         }
     });
+    let mut seen = [[0; 22]; 8];
+    part("desk", &mut run, &mut |run| seen = desk::histories(run, 60_000.max(cases / 4)));
+    for (kind, row) in desk::missing(&seen) {
+        run.fail(&format!("desk call {kind} never answered row {row} (21: success)"), &[]);
+    }
 
     let rows: Vec<String> =
         run.checks.iter().enumerate().filter(|(_, &n)| n > 0).map(|(r, n)| format!("{r}:{n}")).collect();
@@ -59,6 +66,9 @@ fn main() {
     let rows: Vec<String> =
         run.makes.iter().enumerate().filter(|(_, &n)| n > 0).map(|(r, n)| format!("{r}:{n}")).collect();
     println!("make, cases by row (0 makes): {}", rows.join(" "));
+    let rows: Vec<String> =
+        (0..22).map(|r| format!("{r}:{}", seen.iter().map(|calls| calls[r]).sum::<usize>())).collect();
+    println!("desk, calls by row (21: success): {}", rows.join(" "));
     println!("{} lists counted over all sets; {} plans judged by the definition", run.counted, run.judged);
     if (0..=16).any(|r| run.checks[r] == 0) || [0, 1, 2, 3, 4, 5, 6, 20].iter().any(|&r: &usize| run.makes[r] == 0) {
         run.fail("a row was never answered", &[]);

@@ -7,11 +7,16 @@ pub type Depots = [bool; 64];
 
 /// The row that refuses a list, or its sites.
 pub fn read_list(list: &[u8]) -> Result<Vec<Site>, u8> {
+    read_list_into(list, 512)
+}
+
+/// The same of a list for which there are so many places.
+pub fn read_list_into(list: &[u8], places: usize) -> Result<Vec<Site>, u8> {
     if list.len() < 4 || list[..2] != [0x4C, 0x53] {
         return Err(1);
     }
     let count = usize::from(list[2]) + 256 * usize::from(list[3]);
-    if count > 512 {
+    if count > 512 || count > places {
         return Err(2);
     }
     if list.len() != 4 + 6 * count {

@@ -1,3 +1,6 @@
 pub mod Answers
 pub mod Codes
+pub mod Contracts
+pub mod DeskCodes
+pub mod Histories
 pub mod Signed

@@ -1,4 +1,4 @@
-// The static library for Rust and C: Check and Make, each answered by one number.
+// The static library for Rust and C: Check and Make, each answered by one number, and the desk over lent bytes.
 use records::Wrote;
 use verify::Verdict;
 ghost use mathlib.Core.Path.{_≡_};
@@ -7,6 +7,16 @@ ghost use lib.IntN.{pos, negℤ};
 ghost use Rattle.records.specs.Format.{edition1, readList};
 ghost use Rattle.judge.specs.Check.{checkRow};
 ghost use Rattle.engine.specs.Codes.{checkCode, MadeCode};
+
+pub mod desk;
+
+// A desk's answer as numbers: its code, two figures and a difference.
+pub struct Outcome {
+    pub code: i64,
+    pub first: u64,
+    pub second: u64,
+    pub difference: i64,
+}
 
 // A length, as a signed number.
 fn length(n: usize) -> i64

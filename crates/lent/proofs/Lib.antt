@@ -1,0 +1,4 @@
+pub mod Contracts
+pub mod RoundTrip
+pub mod Served
+pub mod Widths

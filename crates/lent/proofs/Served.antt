@@ -1,0 +1,186 @@
+-- A call on lent bytes, from what its parts say. Assumes nothing.
+use Prim.Native.Nat.{ℕ, _*_, _/_, _≤_}
+use mathlib.Core.Bool.{Bool, true, false, cond, true≢false}
+use mathlib.Core.List.{List, [], _∷_, map, flatMap}
+use mathlib.Core.Option.{Option, none, some}
+use mathlib.Core.Path.{_≡_, refl, ap, ap₂, sym, _∙_}
+use native.Mathlib.Omega.{arith}
+use borrow.Author.Tests.{eq-eqb, ne-eqb, eqb-true}
+use lib.Dec.{leb}
+use lib.ListN.{length}
+use Rattle.density.specs.Rows.{firstRow}
+use Rattle.records.specs.Bytes.{Bytes, field}
+use Rattle.table.specs.declared.Site1.{Site1}
+use Rattle.table.specs.Table.{overlay, heldOf}
+use Rattle.table.specs.Widths.{noSite1, widened}
+use Rattle.table.proofs.Overlay.{overlay-none}
+use Rattle.store.specs.declared.Store1.{Store1}
+use Rattle.store.specs.declared.Request.{Request}
+use Rattle.store.specs.declared.Request.the-variants.{Load, Change, Add, Propose, Share, Depot, Difference, Written}
+use Rattle.store.specs.declared.Request1.{Request1}
+use Rattle.store.specs.declared.Decision1.{Decision1}
+use Rattle.store.specs.Calls.{Call, Told, told, refused}
+use Rattle.store.specs.State.{State, Done, corrupt, triesZero, effectOf, rows, settle, step}
+use Rattle.store.specs.Trace.{Question}
+use Rattle.store.specs.Edition1.{storeOf1, view1, callOf1, fresh1, turned1, Served1}
+use Rattle.lent.specs.Layout.{storeBytes, noStore, isSized, storeIn, sitesIn, tableOver, PutStore, PutSites}
+use Rattle.lent.specs.Lent.{stateIn, Lent, isRefused, lent, laid, Called, Freshened}
+use Rattle.lent.specs.Lent as spec
+use Rattle.lent.proofs.RoundTrip.{length-sites, table-again, store-again}
+
+sized : (s : List ℕ) → length s ≡ 2584 → isSized s ≡ true
+sized s = eq-eqb (length s) 2584
+
+unlike : (s : List ℕ) → (length s ≡ 2584 → ⊥) → isSized s ≡ false
+unlike s = ne-eqb (length s) 2584
+
+-- ---- a fresh store
+
+pub fresh-not : (s : List ℕ) → (length s ≡ 2584 → ⊥) → Freshened s false s
+fresh-not s h = record { answer = sym (unlike s h); is = rw (unlike s h); reads = λ e. absurd (true≢false (sym e ∙ unlike s h)) }
+
+pub fresh-put : (s : List ℕ) {x : Store1} {s' : List ℕ} → length s ≡ 2584 → x ≡ fresh1 → PutStore x s' → Freshened s true s'
+fresh-put s h e p =
+    record {
+      answer = sym (sized s h);
+      is = rw (sized s h) (p .bytes ∙ ap (λ (x : Store1). storeBytes (storeOf1 x)) e);
+      reads = λ k. p .reads ∙ e;
+    }
+
+-- ---- a refused step leaves the state
+
+module _ (s : State) (c : Call) where
+  granted : (q : Request) → isRefused (effectOf s c q .reply .answer) ≡ false
+  granted Load = refl
+  granted (Change i w) = refl
+  granted (Add f d w) = refl
+  granted Propose = refl
+  granted (Share i) = refl
+  granted (Depot d) = refl
+  granted (Difference a d) = refl
+  granted Written = refl
+
+  stays-by : (o : Option ℕ) (q : Request) → isRefused (settle o s c (effectOf s c q) .reply .answer) ≡ true → settle o s c (effectOf s c q) .after ≡ s
+  stays-by none q e = absurd (true≢false (sym e ∙ granted q))
+  stays-by (some n) q e = refl
+
+  pub refused-stays : isRefused (step s c .reply .answer) ≡ true → step s c .after ≡ s
+  refused-stays = stays-by (firstRow (rows s c)) (c .request)
+
+-- ---- a call
+
+module _ (s t : List ℕ) (request : Request1) (input buffer : List ℕ) where
+  abbrev asked : Call
+  asked = callOf1 request input buffer
+
+  pub unsized : (length s ≡ 2584 → ⊥) → Called s t asked (refused 0) s t buffer
+  unsized h = record { is = rw (unlike s h); long = refl; reads = λ e. absurd (true≢false (sym e ∙ unlike s h)) }
+
+  module _ {before : Store1} {sites : List Site1} {d : Decision1} {last : List ℕ} (long : length s ≡ 2584) (e : before ≡ storeIn s)
+      (f : sites ≡ heldOf noSite1 (sitesIn t)) (v : Served1 before sites (length t / 4) request input buffer d last) where
+    abbrev after : Done
+    after = turned1 (record { answer = d .answer; store = d .store }) (overlay (d .n) (d .sites) (sitesIn t)) last
+
+    steps : after ≡ step (stateIn s t) asked
+    steps = v .steps (sitesIn t) f (sym (length-sites t)) ∙ ap (λ (x : Store1). step (view1 x (sitesIn t)) asked) e
+
+    -- what is laid, by whether the call is refused
+    abbrev laidBy : Bool → Lent
+    laidBy b = cond b (lent s t (after .reply)) (lent (storeBytes (after .after .store)) (tableOver (after .after .table) t) (after .reply))
+
+    is-laid : laid s t after ≡ spec.call s t asked
+    is-laid = rw (sized s long) (ap (laid s t) steps)
+
+    pub refuses : isRefused (told (d .answer)) ≡ true → Called s t asked (told (d .answer)) s t last
+    refuses r =
+        record {
+          is = ap (λ (b : Bool). laidBy b) (sym r) ∙ is-laid;
+          long = refl;
+          reads = λ k. sym (refused-stays (stateIn s t) asked (ap (λ (x : Done). isRefused (x .reply .answer)) (sym steps) ∙ r));
+        }
+
+    pub puts : isRefused (told (d .answer)) ≡ false → Bytes t → {s' t' : List ℕ} → PutSites (d .n) (d .sites) t t' → PutStore (d .store) s' → length s' ≡ length s
+        → Called s t asked (told (d .answer)) s' t' last
+    puts r bytes {s'} {t'} p q kept =
+        let room : 4 * d .n ≤ length t = omega (arith, v .room) in
+        let table : t' ≡ tableOver (map widened (overlay (d .n) (d .sites) (sitesIn t))) t =
+        p .bytes ∙ sym (table-again (d .n) (d .sites) t (omega (arith, v .few, p .many)) room bytes) in
+        record {
+          is = ap₂ (λ (x y : List ℕ). lent x y (after .reply)) (q .bytes) table ∙ ap (λ (b : Bool). laidBy b) (sym r) ∙ is-laid;
+          long = kept;
+          reads = λ k. ap₂ (λ (x : Store1) (y : List Site1). view1 x y) (q .reads) (p .reads) ∙ ap (λ (x : Done). x .after) steps;
+        }
+
+-- a buffer without bytes stays so
+pub called-empty : {s t s' t' b : List ℕ} {c : Call} {a : Told} → Called s t c a s' t' b → length b ≡ 0 → Called s t c a s' t' []
+called-empty {b = []} x h = x
+called-empty {b = y ∷ b} x h = absurd (omega arith)
+
+-- ---- a question changes no byte
+
+module _ (s : State) (c : Call) where
+  asks-by : (o : Option ℕ) (q : Request) → Question q → settle o s c (effectOf s c q) .after ≡ s
+  asks-by (some n) q h = refl
+  asks-by none Load h = absurd h
+  asks-by none (Change i w) h = absurd h
+  asks-by none (Add f d w) h = absurd h
+  asks-by none Propose h = absurd h
+  asks-by none (Share i) h = refl
+  asks-by none (Depot d) h = refl
+  asks-by none (Difference a d) h = refl
+  asks-by none Written h = refl
+
+  question-stays : Question (c .request) → step s c .after ≡ s
+  question-stays = asks-by (firstRow (rows s c)) (c .request)
+
+  -- a store of 513 sites is refused by row 0
+  tries : (q : Request) → Question q → triesZero q ≡ true
+  tries Load h = absurd h
+  tries (Change i w) h = absurd h
+  tries (Add f d w) h = absurd h
+  tries Propose h = absurd h
+  tries (Share i) h = refl
+  tries (Depot d) h = refl
+  tries (Difference a d) h = refl
+  tries Written h = refl
+
+  corrupt-refused : Question (c .request) → corrupt s ≡ true → isRefused (step s c .reply .answer) ≡ true
+  unfolding firstRow
+  corrupt-refused q h = rw (tries (c .request) q, h)
+
+none-corrupt : (t : List Site1) → corrupt (view1 noStore t) ≡ true
+unfolding corrupt
+none-corrupt t = refl
+
+module _ {s t s' t' buffer : List ℕ} {c : Call} {a : Told} (x : Called s t c a s' t' buffer) (q : Question (c .request)) (b : Bytes s) (d : Bytes t) where
+  abbrev at : State
+  at = stateIn s t
+
+  whole-again : tableOver (map widened (sitesIn t)) t ≡ t
+  unfolding flatMap
+  whole-again =
+      ap (λ (l : List Site1). tableOver (map widened l) t) (sym (overlay-none [] (sitesIn t)))
+      ∙ table-again 0 [] t (omega arith) (omega arith) d
+
+  kept-by : (z : Bool) → isRefused (step at c .reply .answer) ≡ z → (h : Bool) → leb (field s 8 8) 1 ≡ h → isSized s ≡ true
+      → (laid s t (step at c) .store ≡ s) × (laid s t (step at c) .table ≡ t)
+  unfolding storeIn
+  kept-by true e h k l = rw e (refl, refl)
+  kept-by false e false k l =
+      absurd (true≢false (sym (corrupt-refused at c q (rw (l, k) (none-corrupt (sitesIn t)))) ∙ e))
+  kept-by false e true k l =
+      let st = question-stays at c q in
+      rw e (
+        ap (λ (z : State). storeBytes (z .store)) st ∙ store-again s (eqb-true (length s) 2584 l) b k,
+        ap (λ (z : State). tableOver (z .table) t) st ∙ whole-again,
+      )
+
+  sized-by : (z : Bool) → isSized s ≡ z → (s' ≡ s) × (t' ≡ t)
+  sized-by true e =
+      let k = kept-by (isRefused (step at c .reply .answer)) refl (leb (field s 8 8) 1) refl e in
+      let i = rw e at (x .is) in
+      (ap (λ (l : Lent). l .store) i ∙ k .0, ap (λ (l : Lent). l .table) i ∙ k .1)
+  sized-by false e = let i = rw e at (x .is) in (ap (λ (l : Lent). l .store) i, ap (λ (l : Lent). l .table) i)
+
+  pub question-keeps : (s' ≡ s) × (t' ≡ t)
+  question-keeps = sized-by (isSized s) refl

@@ -1,0 +1,242 @@
+//! The plain book of document 01: a list, a plan or none, and the rows in the paper's order.
+
+use crate::decompose::by_cuts;
+use crate::records::{listed, plan_bytes, Plan, Site};
+use crate::reference::{self, Depots};
+
+/// A desk call, with what it is given beside the desk and the table.
+#[derive(Clone, Debug)]
+pub enum Call {
+    Load(Vec<u8>),
+    Change(usize, u16),
+    Add(u8, u8, u16),
+    Propose(Vec<u8>),
+    Share(usize),
+    Depot(u8),
+    Difference(u8, u8),
+    /// The bytes of the buffer.
+    Written(usize),
+}
+
+impl Call {
+    /// The call's place among the eight.
+    pub fn kind(&self) -> usize {
+        match self {
+            Call::Load(_) => 0,
+            Call::Change(..) => 1,
+            Call::Add(..) => 2,
+            Call::Propose(_) => 3,
+            Call::Share(_) => 4,
+            Call::Depot(_) => 5,
+            Call::Difference(..) => 6,
+            Call::Written(_) => 7,
+        }
+    }
+}
+
+/// What a call answers where no row refuses it.
+#[derive(Clone, Debug, PartialEq, Eq)]
+pub enum Told {
+    Done,
+    Figures(u64, u64),
+    Difference(i64, u64),
+    Wrote(Vec<u8>),
+}
+
+#[derive(Clone, Debug)]
+pub struct Book {
+    pub places: usize,
+    pub list: Vec<Site>,
+    pub plan: Option<Plan>,
+    /// The groups of the definition, worked out at most once for a list.
+    groups: Option<Vec<u64>>,
+    /// Figures go by the groups held, where the plan held may be none that passed.
+    by_held: bool,
+}
+
+impl Book {
+    pub fn new(places: usize) -> Book {
+        Book { places, list: Vec::new(), plan: None, groups: None, by_held: false }
+    }
+
+    /// A book whose figures go by the groups of the plan that it holds, true or not.
+    pub fn holding(places: usize, list: Vec<Site>, plan: Option<Plan>) -> Book {
+        Book { list, plan, by_held: true, ..Book::new(places) }
+    }
+
+    fn listed(&mut self, list: Vec<Site>) {
+        *self = Book { list, ..Book::new(self.places) };
+    }
+
+    fn definition(&mut self) -> &[u64] {
+        self.groups.get_or_insert_with(|| by_cuts(&self.list))
+    }
+
+    fn groups(&mut self) -> &[u64] {
+        if self.by_held {
+            &self.plan.as_ref().expect("a plan").groups
+        } else {
+            self.definition()
+        }
+    }
+
+    /// The place of a depot's group.
+    fn place(&mut self, depot: u8) -> usize {
+        self.groups().iter().position(|g| g >> depot & 1 == 1).expect("a listed depot")
+    }
+
+    /// W and q of the group at a place: the litres of the sites that it carries, and its size.
+    fn group(&mut self, place: usize) -> (u64, u64) {
+        let mut litres = 0;
+        for site in self.list.clone() {
+            if self.place(site.first).max(self.place(site.second)) == place {
+                litres += u64::from(site.litres);
+            }
+        }
+        (litres, u64::from(self.groups()[place].count_ones()))
+    }
+
+    fn depot(&mut self, depot: u8) -> Result<(u64, u64), u8> {
+        if depot > 63 || listed(&self.list) >> depot & 1 == 0 {
+            return Err(19);
+        }
+        let place = self.place(depot);
+        Ok(self.group(place))
+    }
+
+    /// The rows of a call in the paper's order, or what it answers; the book is as it is after it.
+    pub fn answer(&mut self, call: &Call) -> Result<Told, u8> {
+        match call {
+            Call::Load(list) => {
+                let list = reference::read_list_into(list, self.places)?;
+                self.listed(list);
+                Ok(Told::Done)
+            }
+            &Call::Change(site, litres) => {
+                if litres == 0 {
+                    return Err(6);
+                }
+                let mut list = self.list.clone();
+                list.get_mut(site).ok_or(18)?.litres = litres;
+                self.listed(list);
+                Ok(Told::Done)
+            }
+            &Call::Add(first, second, litres) => {
+                if self.list.len() >= 512 || self.list.len() >= self.places {
+                    return Err(2);
+                }
+                if first > 63 || second > 63 {
+                    return Err(5);
+                }
+                if litres == 0 {
+                    return Err(6);
+                }
+                let mut list = self.list.clone();
+                list.push(Site { first, second, litres });
+                self.listed(list);
+                Ok(Told::Done)
+            }
+            Call::Propose(plan) => {
+                let (groups, shares) = reference::read_plan(plan, self.list.len())?;
+                let row = reference::plan_row(&self.list, &groups, &shares);
+                let list = self.list.clone();
+                let is_true = reference::is_true(&list, self.definition(), &groups, &shares);
+                assert_eq!(is_true, row == 0, "the rows and the definition differ");
+                match row {
+                    0 => {
+                        let shares = shares.iter().map(|&s| s as u32).collect();
+                        self.plan = Some(Plan { groups: groups.iter().map(number).collect(), shares });
+                        Ok(Told::Done)
+                    }
+                    row => Err(row),
+                }
+            }
+            &Call::Share(site) => {
+                let share = self.plan.as_ref().ok_or(17)?.shares.get(site).copied();
+                let s = *self.list.get(site).ok_or(18)?;
+                let carrier = self.place(s.first).max(self.place(s.second));
+                let q = self.group(carrier).1;
+                Ok(Told::Figures(u64::from(share.expect("a share for each site")), u64::from(s.litres) * q))
+            }
+            &Call::Depot(depot) => {
+                self.plan.as_ref().ok_or(17)?;
+                let (litres, size) = self.depot(depot)?;
+                Ok(Told::Figures(litres, size))
+            }
+            &Call::Difference(a, b) => {
+                self.plan.as_ref().ok_or(17)?;
+                let ((wa, qa), (wb, qb)) = (self.depot(a)?, self.depot(b)?);
+                Ok(Told::Difference((wa * qb) as i64 - (wb * qa) as i64, qa * qb))
+            }
+            &Call::Written(room) => {
+                let bytes = plan_bytes(self.plan.as_ref().ok_or(17)?);
+                if room < bytes.len() {
+                    return Err(20);
+                }
+                Ok(Told::Wrote(bytes))
+            }
+        }
+    }
+
+    /// The store as bytes: sites, whether a plan is held, groups, 64 sets, 512 shares; zero beyond what is held.
+    pub fn store(&self) -> Vec<u8> {
+        let (groups, shares) = self.plan.as_ref().map_or((&[][..], &[][..]), |p| (&p.groups, &p.shares));
+        let mut bytes = Vec::new();
+        for figure in [self.list.len() as u64, u64::from(self.plan.is_some()), groups.len() as u64] {
+            bytes.extend(figure.to_le_bytes());
+        }
+        groups.iter().for_each(|g| bytes.extend(g.to_le_bytes()));
+        bytes.resize(24 + 8 * 64, 0);
+        shares.iter().for_each(|s| bytes.extend(s.to_le_bytes()));
+        bytes.resize(24 + 8 * 64 + 4 * 512, 0);
+        bytes
+    }
+
+    /// The table after a call: the sites stand in front, the rest keeps its content.
+    pub fn table(&self, before: &[u8]) -> Vec<u8> {
+        let mut bytes = before.to_vec();
+        for (place, s) in bytes.chunks_mut(4).zip(&self.list) {
+            let litres = s.litres.to_le_bytes();
+            place.copy_from_slice(&[s.first, s.second, litres[0], litres[1]]);
+        }
+        bytes
+    }
+}
+
+fn number(set: &Depots) -> u64 {
+    (0..64).map(|d| u64::from(set[d]) << d).sum()
+}
+
+fn depots(set: u64) -> Depots {
+    std::array::from_fn(|d| set >> d & 1 == 1)
+}
+
+/// The book that the bytes of a store and a table stand for, or row 0: "held site count above 512 or the
+/// table's places, a held site that rows 5 or 6 refuse, or a held plan that rows 8 or 12 to 14 refuse".
+pub fn held(store: &[u8], table: &[u8]) -> Result<Book, u8> {
+    let figure = |at: usize, bytes: usize| (0..bytes).map(|i| u64::from(store[at + i]) << (8 * i)).sum::<u64>();
+    let places = table.len() / 4;
+    if store.len() != 2584 || figure(8, 8) > 1 || figure(0, 8) > 512 || figure(0, 8) > places as u64 {
+        return Err(0);
+    }
+    let count = figure(0, 8) as usize;
+    let site = |p: &[u8]| Site { first: p[0], second: p[1], litres: u16::from_le_bytes([p[2], p[3]]) };
+    let list: Vec<Site> = table.chunks_exact(4).take(count).map(site).collect();
+    if list.iter().any(|s| s.first > 63 || s.second > 63 || s.litres == 0) {
+        return Err(0);
+    }
+    if figure(8, 8) == 0 {
+        return Ok(Book::holding(places, list, None));
+    }
+    if figure(16, 8) > 64 {
+        return Err(0);
+    }
+    let groups: Vec<u64> = (0..figure(16, 8) as usize).map(|k| figure(24 + 8 * k, 8)).collect();
+    let shares: Vec<u32> = (0..count).map(|i| figure(536 + 4 * i, 4) as u32).collect();
+    let sets: Vec<Depots> = groups.iter().map(|&g| depots(g)).collect();
+    let wide: Vec<u64> = shares.iter().map(|&s| u64::from(s)).collect();
+    match reference::plan_row(&list, &sets, &wide) {
+        12..=14 => Err(0),
+        _ => Ok(Book::holding(places, list, Some(Plan { groups, shares }))),
+    }
+}

@@ -1,0 +1,350 @@
+//! Desk calls beside the plain book: whole histories, and stores and tables of any bytes.
+
+use crate::book::{held, Book, Call, Told};
+use crate::damage::{reordered, spoil, Base};
+use crate::families::{scattered, Extent, FAMILIES};
+use crate::lent::{self, Lent, Reply};
+use crate::near::{miss, next_season};
+use crate::records::{list_bytes, plan_bytes, Plan, Site};
+use crate::run::Run;
+
+/// Row 0 as a code.
+const CORRUPT: i64 = -256;
+
+/// How often each of the eight calls got each row; place 21 is success.
+pub type Seen = [[usize; 22]; 8];
+
+/// The rows that each call can answer, 21 for success; row 0 only where the bytes are foreign.
+const ROWS: [&[usize]; 8] = [
+    &[0, 1, 2, 3, 4, 5, 6, 21],
+    &[0, 6, 18, 21],
+    &[0, 2, 5, 6, 21],
+    &[0, 7, 8, 9, 10, 11, 12, 13, 14, 15, 16, 21],
+    &[0, 17, 18, 21],
+    &[0, 17, 19, 21],
+    &[0, 17, 19, 21],
+    &[0, 17, 20, 21],
+];
+
+/// The rows of the table that some call never answered.
+pub fn missing(seen: &Seen) -> Vec<(usize, usize)> {
+    (0..8)
+        .flat_map(|kind| ROWS[kind].iter().map(move |&row| (kind, row)))
+        .filter(|&(kind, row)| seen[kind][row] == 0)
+        .collect()
+}
+
+/// The bytes of a desk and its table.
+#[derive(Clone)]
+struct Bytes {
+    store: Vec<u8>,
+    table: Vec<u8>,
+}
+
+impl Bytes {
+    /// A fresh desk over any bytes, and a table of so many places and bytes behind them, of any content.
+    fn fresh(run: &mut Run, places: usize) -> Bytes {
+        let junk: Vec<u8> = (0..sulgheti::STORE_BYTES).map(|_| run.rng.byte()).collect();
+        let mut store = Lent::new(&mut run.rng, &junk, &[]);
+        if lent::fresh(&mut store) != 0 || !store.kept_around() || store.bytes() != Book::new(places).store() {
+            run.fail("a fresh store is not as laid out", &[]);
+        }
+        let tail = run.rng.below(4);
+        let table = (0..4 * places + tail).map(|_| run.rng.byte()).collect();
+        Bytes { store: store.bytes().to_vec(), table }
+    }
+}
+
+/// One call of the library and of the wrapper, compared with what the book says: the answer, every byte of the
+/// store, of the table and of the buffer, and the guards around them. `book` is the book before the call, or row 0.
+fn call(run: &mut Run, desk: &mut Bytes, book: &mut Result<Book, u8>, call: &Call, seen: &mut Seen) {
+    run.cases += 1;
+    let sized = desk.store.len() == sulgheti::STORE_BYTES;
+    // row 0 is tried by every call but load; a load cannot write a store of another length
+    let expected = match (&mut *book, call) {
+        (Ok(book), _) => book.answer(call),
+        (Err(_), Call::Load(_)) if sized => {
+            let mut fresh = Book::new(desk.table.len() / 4);
+            let answer = fresh.answer(call);
+            if answer.is_ok() {
+                *book = Ok(fresh);
+            }
+            answer
+        }
+        (Err(row), _) => Err(*row),
+    };
+    seen[call.kind()][expected.as_ref().map_or_else(|&row| usize::from(row), |_| 21)] += 1;
+
+    let given: &[u8] = match call {
+        Call::Load(bytes) | Call::Propose(bytes) => bytes,
+        _ => &[],
+    };
+    let room = if let Call::Written(room) = call { *room } else { run.rng.below(3) };
+    let content: Vec<u8> = (0..room).map(|_| run.rng.byte()).collect();
+    let old = Reply { code: 0, first: run.rng.word(), second: run.rng.word(), difference: run.rng.word() as i64 };
+    let mut store = Lent::new(&mut run.rng, &desk.store, &[]);
+    let mut table = Lent::new(&mut run.rng, &desk.table, &[]);
+    let input = Lent::new(&mut run.rng, given, &[]);
+    let mut buffer = Lent::new(&mut run.rng, &content, &[]);
+    let reply = lent::desk(call, &mut store, &mut table, &input, &mut buffer, old);
+
+    let (mut wanted, mut out) = (old, content.clone());
+    match &expected {
+        Err(0) => wanted.code = CORRUPT,
+        Err(row) => wanted.code = -i64::from(*row),
+        Ok(Told::Done) => {}
+        Ok(Told::Figures(x, y)) => (wanted.first, wanted.second) = (*x, *y),
+        Ok(Told::Difference(d, q)) => (wanted.difference, wanted.second) = (*d, *q),
+        Ok(Told::Wrote(bytes)) => {
+            wanted.code = bytes.len() as i64;
+            out[..bytes.len()].copy_from_slice(bytes);
+        }
+    }
+    let before = [("store", &desk.store[..]), ("table", &desk.table[..]), ("given", given)];
+    if reply != wanted {
+        run.fail(&format!("{call:?} answers {reply:?}, expected {wanted:?}"), &before);
+    }
+    if buffer.bytes() != out || !buffer.kept_around() || !input.unchanged_from(0) {
+        run.fail(&format!("{call:?} leaves another buffer, or writes beside it"), &before);
+    }
+    // load, change, add and propose write what the book then has; all else stays
+    let changes = expected == Ok(Told::Done);
+    let after = match book {
+        Ok(book) if changes => Bytes { store: book.store(), table: book.table(&desk.table) },
+        _ => desk.clone(),
+    };
+    if store.bytes() != after.store || table.bytes() != after.table || !store.kept_around() || !table.kept_around() {
+        run.fail(&format!("{call:?} leaves another store or table"), &before);
+    }
+    wrapped(run, desk, call, &expected, &after, &content, &out);
+    *desk = after;
+}
+
+/// The same call of the wrapper.
+fn wrapped(
+    run: &mut Run,
+    before: &Bytes,
+    call: &Call,
+    expected: &Result<Told, u8>,
+    after: &Bytes,
+    content: &[u8],
+    out: &[u8],
+) {
+    let mut desk = sulgheti::Desk::from_bytes(before.store.clone(), before.table.clone());
+    let mut buffer = content.to_vec();
+    let answer = match call {
+        Call::Load(list) => desk.load(list).map(|()| Told::Done),
+        &Call::Change(site, litres) => desk.change(site, litres).map(|()| Told::Done),
+        &Call::Add(first, second, litres) => desk.add(first, second, litres).map(|()| Told::Done),
+        Call::Propose(plan) => desk.propose(plan).map(|()| Told::Done),
+        &Call::Share(site) => desk.share(site).map(|(s, w)| Told::Figures(s, w)),
+        &Call::Depot(depot) => desk.depot(depot).map(|(w, q)| Told::Figures(w, q)),
+        &Call::Difference(a, b) => desk.difference(a, b).map(|(d, q)| Told::Difference(d, q)),
+        Call::Written(_) => desk.written(&mut buffer).map(|n| Told::Wrote(buffer[..n].to_vec())),
+    };
+    if answer.map_err(|row| row.0) != *expected || desk.bytes() != (&after.store, &after.table) || buffer != out {
+        run.fail(&format!("the wrapper's {call:?} differs"), &[("store", &before.store), ("table", &before.table)]);
+    }
+}
+
+/// A list of a family.
+fn sites(run: &mut Run, most: usize, depots: usize) -> Vec<Site> {
+    let litres = *run.rng.pick(&[1, 2, 3, 10, 100, 65_535]);
+    let sites = run.rng.from_to(0, most);
+    let family = run.rng.pick(&FAMILIES).1;
+    let list = family(&mut run.rng, Extent { sites, depots, litres });
+    scattered(&mut run.rng, &list)
+}
+
+/// A list for a load: mostly one that reads, sometimes damaged.
+fn loaded(run: &mut Run, most: usize, depots: usize) -> Vec<u8> {
+    let sites = sites(run, most, depots);
+    let mut list = list_bytes(&sites);
+    if run.rng.percent(35) {
+        let row = run.rng.from_to(1, 6) as u8;
+        let plan = run.plan(&sites);
+        let mut bytes = plan_bytes(&plan);
+        spoil(&mut run.rng, row, &Base { sites, plan }, &mut list, &mut bytes);
+    }
+    list
+}
+
+/// A plan for a proposal: true, near, of an earlier list, or damaged for one row.
+fn proposed(run: &mut Run, book: &Book, old: &mut Vec<u8>) -> Vec<u8> {
+    let stale = old.clone();
+    let own = run.plan(&book.list);
+    let bytes = plan_bytes(&own);
+    *old = bytes.clone();
+    match run.rng.below(10) {
+        0..=3 => {
+            let mut made = vec![0; bytes.len()];
+            if run.rng.percent(50) && sulgheti::make(&list_bytes(&book.list), &mut made).is_ok() {
+                made
+            } else {
+                bytes
+            }
+        }
+        4 | 5 => stale,
+        6 if !book.list.is_empty() => plan_bytes(&miss(&mut run.rng, &book.list, &own)),
+        7 => {
+            let base = Base { sites: book.list.clone(), plan: own };
+            reordered(&mut run.rng, &base).map_or(bytes, |plan| plan_bytes(&plan))
+        }
+        _ => {
+            let row = run.rng.from_to(7, 15) as u8;
+            let (mut list, mut bytes) = (list_bytes(&book.list), bytes);
+            spoil(&mut run.rng, row, &Base { sites: book.list.clone(), plan: own }, &mut list, &mut bytes);
+            bytes
+        }
+    }
+}
+
+/// A call of any kind, for a desk whose book is known.
+fn any_call(run: &mut Run, book: &Book, old: &mut Vec<u8>, most: usize, depots: usize) -> Call {
+    let n = book.list.len();
+    let near = n + 2;
+    let depot = |run: &mut Run| if run.rng.percent(4) { run.rng.byte() } else { run.rng.below(depots + 1) as u8 };
+    let litres = |run: &mut Run| if run.rng.percent(15) { 0 } else { *run.rng.pick(&[1, 2, 7, 65_535]) };
+    match run.rng.below(100) {
+        0..=13 if n > 0 && run.rng.percent(40) => Call::Load(list_bytes(&next_season(&mut run.rng, &book.list))),
+        0..=13 => Call::Load(loaded(run, most, depots)),
+        14..=19 => Call::Change(run.rng.below(near), litres(run)),
+        20..=27 => Call::Add(depot(run), depot(run), litres(run)),
+        28..=54 => Call::Propose(proposed(run, book, old)),
+        55..=66 => Call::Share(if run.rng.percent(3) { run.rng.word() as usize } else { run.rng.below(near) }),
+        67..=76 => Call::Depot(depot(run)),
+        77..=88 => Call::Difference(depot(run), depot(run)),
+        _ => {
+            let length = book.plan.as_ref().map_or(5, |plan: &Plan| plan_bytes(plan).len());
+            Call::Written(
+                length.saturating_sub(run.rng.below(3)) + if run.rng.percent(60) { run.rng.below(4) } else { 0 },
+            )
+        }
+    }
+}
+
+/// A history: so many calls from a fresh desk and a table of any content.
+fn history(run: &mut Run, places: usize, most: usize, depots: usize, calls: usize, seen: &mut Seen) -> (Bytes, Book) {
+    let mut desk = Bytes::fresh(run, places);
+    let mut book = Ok(Book::new(places));
+    let mut old = plan_bytes(&Plan { groups: vec![], shares: vec![] });
+    for _ in 0..calls {
+        let known = book.clone().expect("a book");
+        let next = any_call(run, &known, &mut old, most, depots);
+        call(run, &mut desk, &mut book, &next, seen);
+    }
+    (desk, book.expect("a book"))
+}
+
+/// The desk and table with some of their bytes changed: the figures of the store, a place, any bytes, or its length.
+fn foreign(run: &mut Run, desk: &Bytes) -> Bytes {
+    let mut desk = desk.clone();
+    let put = |bytes: &mut Vec<u8>, at: usize, with: &[u8]| bytes[at..at + with.len()].copy_from_slice(with);
+    match run.rng.below(10) {
+        0 => {
+            let places = (desk.table.len() / 4) as u64;
+            let count = *run.rng.pick(&[0, 1, 2, places, places + 1, 512, 513, 1 << 32, u64::MAX]);
+            put(&mut desk.store, 0, &count.to_le_bytes());
+        }
+        1 => {
+            let figure = *run.rng.pick(&[0u64, 1, 2, 256, 1 << 63]);
+            put(&mut desk.store, 8, &figure.to_le_bytes());
+        }
+        2 => {
+            let figure = *run.rng.pick(&[0u64, 1, 63, 64, 65, 1 << 40]);
+            put(&mut desk.store, 16, &figure.to_le_bytes());
+        }
+        3 => {
+            let at = 24 + 8 * run.rng.below(3);
+            let set = if run.rng.percent(50) { 0 } else { 1u64 << run.rng.below(8) };
+            put(&mut desk.store, at, &set.to_le_bytes());
+        }
+        4 => {
+            let at = 536 + 4 * run.rng.below(4);
+            let share = run.rng.below(40) as u32;
+            put(&mut desk.store, at, &share.to_le_bytes());
+        }
+        5 if desk.table.len() >= 4 => {
+            let at = run.rng.below(desk.table.len());
+            desk.table[at] = *run.rng.pick(&[0, 1, 63, 64, 255]);
+        }
+        6 => {
+            let places = run.rng.below(4);
+            desk.table.truncate(4 * places + run.rng.below(4));
+        }
+        7 => {
+            let length = *run.rng.pick(&[0, 1, 24, 2_583, 2_585, 3_000]);
+            desk.store.resize(length, run.rng.byte());
+        }
+        8 => desk.store.iter_mut().for_each(|b| *b = run.rng.byte()),
+        _ => {
+            let at = run.rng.below(desk.store.len());
+            desk.store[at] ^= 1 << run.rng.below(8);
+        }
+    }
+    desk
+}
+
+/// Histories of desk calls, at least `calls` of them, and calls of foreign bytes.
+pub fn histories(run: &mut Run, calls: usize) -> Seen {
+    let mut seen = [[0; 22]; 8];
+    let end = run.cases + calls;
+    while run.cases < end {
+        let (places, most, depots, calls) = match run.rng.below(100) {
+            0..=4 => (0, 2, 2, 20),
+            5..=49 => (run.rng.from_to(1, 6), 7, 4, 60),
+            50..=89 => (run.rng.from_to(6, 40), 10, 7, 80),
+            90..=97 => (run.rng.from_to(100, 600), 60, 20, 40),
+            _ => (*run.rng.pick(&[511, 512, 513, 600]), 512, 64, 30),
+        };
+        let (desk, _) = history(run, places, most, depots, calls, &mut seen);
+        for _ in 0..10 {
+            let mut desk = foreign(run, &desk);
+            let mut book = held(&desk.store, &desk.table);
+            for _ in 0..4 {
+                let known = book.clone().unwrap_or_else(|_| Book::new(desk.table.len() / 4));
+                let next = any_call(
+                    run,
+                    &known,
+                    &mut plan_bytes(&Plan { groups: vec![], shares: vec![] }),
+                    most.min(8),
+                    depots,
+                );
+                call(run, &mut desk, &mut book, &next, &mut seen);
+            }
+        }
+    }
+    full(run, &mut seen);
+    let short: Vec<u8> = vec![1; 2_583];
+    let mut store = Lent::new(&mut run.rng, &short, &[]);
+    if lent::fresh(&mut store) != CORRUPT || !store.unchanged_from(0) {
+        run.fail("a fresh store in 2,583 bytes", &[]);
+    }
+    seen
+}
+
+/// A desk with 512 sites, in a table that has room for more: no site can be added.
+fn full(run: &mut Run, seen: &mut Seen) {
+    for places in [512, 513, 600] {
+        let mut desk = Bytes::fresh(run, places);
+        let mut book = Ok(Book::new(places));
+        let sites: Vec<Site> =
+            (0..512).map(|i| Site { first: (i % 64) as u8, second: (i % 63) as u8, litres: 65_535 }).collect();
+        let plan = plan_bytes(&run.plan(&sites));
+        let calls = [
+            Call::Load(list_bytes(&sites)),
+            Call::Add(0, 0, 1),
+            Call::Propose(plan),
+            Call::Share(511),
+            Call::Share(512),
+        ];
+        for next in calls.into_iter().chain([
+            Call::Depot(63),
+            Call::Difference(0, 63),
+            Call::Written(3_717),
+            Call::Add(0, 0, 1),
+        ]) {
+            call(run, &mut desk, &mut book, &next, seen);
+        }
+    }
+}
