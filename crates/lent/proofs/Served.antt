@@ -20,7 +20,7 @@ use Rattle.store.specs.declared.Request.the-variants.{Load, Change, Add, Propos
 use Rattle.store.specs.declared.Request1.{Request1}
 use Rattle.store.specs.declared.Decision1.{Decision1}
 use Rattle.store.specs.Calls.{Call, Told, told, refused}
-use Rattle.store.specs.State.{State, Done, corrupt, triesZero, effectOf, rows, settle, step}
+use Rattle.store.specs.State.{State, Done, corrupt, triesZero, effectOf, refusal, settle, step}
 use Rattle.store.specs.Trace.{Question}
 use Rattle.store.specs.Edition1.{storeOf1, view1, callOf1, fresh1, turned1, Served1}
 use Rattle.lent.specs.Layout.{storeBytes, noStore, isSized, storeIn, sitesIn, tableOver, PutStore, PutSites}
@@ -65,7 +65,7 @@ module _ (s : State) (c : Call) where
   stays-by (some n) q e = refl
 
   pub refused-stays : isRefused (step s c .reply .answer) ≡ true → step s c .after ≡ s
-  refused-stays = stays-by (firstRow (rows s c)) (c .request)
+  refused-stays = stays-by (refusal s c) (c .request)
 
 -- ---- a call
 
@@ -131,7 +131,7 @@ module _ (s : State) (c : Call) where
   asks-by none Written h = refl
 
   question-stays : Question (c .request) → step s c .after ≡ s
-  question-stays = asks-by (firstRow (rows s c)) (c .request)
+  question-stays = asks-by (refusal s c) (c .request)
 
   -- a store of 513 sites is refused by row 0
   tries : (q : Request) → Question q → triesZero q ≡ true
