@@ -1,4 +1,5 @@
-/* Fair-load plans for two-depot supply: the proved engine, as a static library (libengine.a).
+/* Fair-load plans for two-depot supply: the proved engine, as static libraries:
+ * Check and Make in libengine.a, the desk in libdesk.a.
  *
  * Every pointer must be valid for its length and must not be NULL, also where the length is 0.
  * What a function writes must not overlap anything else that it is given. The functions keep nothing

@@ -1,4 +1,4 @@
-//! Finds libengine.a: in the folder that SULGHETI_LIB names, or in ../target/staticlib.
+//! Finds libengine.a and libdesk.a: in the folder that SULGHETI_LIB names, or in ../target/staticlib.
 
 use std::env;
 use std::path::PathBuf;
@@ -9,14 +9,16 @@ fn main() {
         Some(folder) => PathBuf::from(folder),
         None => PathBuf::from(env::var_os("CARGO_MANIFEST_DIR").unwrap()).join("../target/staticlib"),
     };
-    let archive = folder.join("libengine.a");
-    println!("cargo:rerun-if-changed={}", archive.display());
-    if !archive.is_file() {
-        panic!(
-            "{} is missing: run `rt staticlib engine` in the repository's root, or set SULGHETI_LIB to the archive's folder",
-            archive.display()
-        );
+    for name in ["engine", "desk"] {
+        let archive = folder.join(format!("lib{name}.a"));
+        println!("cargo:rerun-if-changed={}", archive.display());
+        if !archive.is_file() {
+            panic!(
+                "{} is missing: run `rt staticlib {name}` in the repository's root, or set SULGHETI_LIB to the archives' folder",
+                archive.display()
+            );
+        }
+        println!("cargo:rustc-link-lib=static={name}");
     }
     println!("cargo:rustc-link-search=native={}", folder.display());
-    println!("cargo:rustc-link-lib=static=engine");
 }

@@ -1,10 +1,10 @@
 #!/usr/bin/env bash
-# Tests of the static library from Rust and from C, and of the program `plan` with tools/list.sh.
+# Tests of the static libraries from Rust and from C, and of the program `plan` with tools/list.sh.
 #
 #     tests/run.sh [--cases N] [--seed S]
 #
-# Builds target/staticlib/libengine.a by `rt staticlib engine`, unless it is there and newer than
-# everything under crates/. With SULGHETI_LIB set, the archive in that folder is tested instead.
+# Builds target/staticlib/libengine.a and libdesk.a by `rt staticlib`, each unless it is there and newer than
+# everything under crates/. With SULGHETI_LIB set, the archives in that folder are tested instead.
 # Builds target/bin/plan and target/bin/console by `rt check`, unless they are there.
 # Needs cargo and a C compiler; no network. Exit status 0: all passed.
 set -euo pipefail
@@ -17,11 +17,13 @@ mkdir -p target
 
 if [ -z "${SULGHETI_LIB:-}" ]; then
     SULGHETI_LIB=$PWD/target/staticlib
-    archive=$SULGHETI_LIB/libengine.a
-    if [ ! -f "$archive" ] || [ -n "$(find crates crates.txt -newer "$archive" -print -quit)" ]; then
-        rt staticlib engine >target/staticlib.log 2>&1 || { cat target/staticlib.log; exit 1; }
-        tail -n 1 target/staticlib.log
-    fi
+    for name in engine desk; do
+        archive=$SULGHETI_LIB/lib$name.a
+        if [ ! -f "$archive" ] || [ -n "$(find crates crates.txt -newer "$archive" -print -quit)" ]; then
+            rt staticlib "$name" >target/staticlib.log 2>&1 || { cat target/staticlib.log; exit 1; }
+            tail -n 1 target/staticlib.log
+        fi
+    done
 fi
 
 export SULGHETI_LIB
@@ -34,7 +36,7 @@ bash tests/plan.sh
 
 # the C programs
 for name in check_t desk_t; do
-    "${CC:-cc}" -std=c99 -Wall -Wextra -Werror -O2 -Iinclude "tests/c/$name.c" "$SULGHETI_LIB/libengine.a" -o "target/$name"
+    "${CC:-cc}" -std=c99 -Wall -Wextra -Werror -O2 -Iinclude "tests/c/$name.c" "$SULGHETI_LIB/libengine.a" "$SULGHETI_LIB/libdesk.a" -o "target/$name"
     "target/$name" || { echo "$name: failed, status $?"; exit 1; }
 done
 echo "check_t, desk_t: T's plan passes, and is held, from C"

@@ -1,4 +1,4 @@
-// The static library for Rust and C: Check and Make, each answered by one number, and the desk over lent bytes.
+// The static library for Rust and C: Check and Make, each answered by one number.
 use records::Wrote;
 use verify::Verdict;
 ghost use mathlib.Core.Path.{_≡_};
@@ -8,18 +8,8 @@ ghost use Rattle.records.specs.Format.{edition1, readList};
 ghost use Rattle.judge.specs.Check.{checkRow};
 ghost use Rattle.engine.specs.Codes.{checkCode, MadeCode};
 
-pub mod desk;
-
-// A desk's answer as numbers: its code, two figures and a difference.
-pub struct Outcome {
-    pub code: i64,
-    pub first: u64,
-    pub second: u64,
-    pub difference: i64,
-}
-
 // A length, as a signed number.
-fn length(n: usize) -> i64
+pub fn length(n: usize) -> i64
     requires { ⌜ n < 2 ^ 63 ⌝ }
     ensures { λ r. ⌜ r ≡ pos n ⌝ }
 {
@@ -27,7 +17,7 @@ fn length(n: usize) -> i64
 }
 
 // A row's number with a minus sign.
-fn refused(n: u8) -> i64
+pub fn refused(n: u8) -> i64
     ensures { λ r. ⌜ r ≡ negℤ (pos n) ⌝ }
 {
     0 - length(n as usize)

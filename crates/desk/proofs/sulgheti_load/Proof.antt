@@ -1,0 +1,27 @@
+-- `desk::sulgheti_load` meets its contract. Assumes nothing.
+use mathlib.Core.Path.{ap, _∙_}
+use Rattle.desk.specs.declared.Coded.{Coded}
+use Rattle.engine.proofs.Signed.{read-back}
+use Rattle.desk.proofs.DeskCodes.{did}
+use borrow.Author.Needs.{needs}
+use Rattle.desk.proofs.sulgheti_load.Statement.{statement}
+use Rattle.desk.proofs.sulgheti_load.Tie as tie
+
+call-on-requires : tie.Need-call-on-requires
+call-on-requires c κs = search needs
+
+outcome-requires : tie.Need-outcome-requires
+outcome-requires c κs = search needs
+
+same-length : tie.Need-same-length
+same-length c = search needs
+
+same-length-2 : tie.Need-same-length-2
+same-length-2 c = search needs
+
+returns : tie.Need-returns
+returns c = did (c .before .before .before .before .before .before .call-on .ensures) (read-back (c .struct-told .given .0 .1) ∙ ap (λ (o : Coded). o .code) (c .before .outcome .ensures))
+
+pub sulgheti-load-spec : {M : Type 1} → statement M
+sulgheti-load-spec =
+    tie.close (tie.spec call-on-requires outcome-requires same-length same-length-2 returns)

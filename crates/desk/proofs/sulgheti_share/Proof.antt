@@ -1,0 +1,29 @@
+-- `desk::sulgheti_share` meets its contract. Assumes nothing.
+use mathlib.Core.Path.{ap, _∙_}
+use Rattle.desk.specs.declared.Coded.{Coded}
+use Rattle.engine.proofs.Signed.{read-back}
+use Rattle.desk.proofs.DeskCodes.{figures}
+use borrow.Author.Needs.{needs}
+use Rattle.desk.proofs.sulgheti_share.Statement.{statement}
+use Rattle.desk.proofs.sulgheti_share.Tie as tie
+
+ask-requires : tie.Need-ask-requires
+ask-requires c κs = search needs
+
+outcome-requires : tie.Need-outcome-requires
+outcome-requires c κs = search needs
+
+same-length : tie.Need-same-length
+same-length c = search needs
+
+same-length-2 : tie.Need-same-length-2
+same-length-2 c = search needs
+
+returns : tie.Need-returns
+returns c =
+    figures (c .before .before .before .before .before .before .before .before .ask .ensures) (read-back (c .struct-told .given .0 .1) ∙ ap (λ (o : Coded). o .code) (c .before .outcome .ensures))
+    (ap (λ (o : Coded). o .first) (c .before .outcome .ensures)) (ap (λ (o : Coded). o .second) (c .before .outcome .ensures))
+
+pub sulgheti-share-spec : {M : Type 1} → statement M
+sulgheti-share-spec =
+    tie.close (tie.spec ask-requires outcome-requires same-length same-length-2 returns)
