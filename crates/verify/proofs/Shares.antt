@@ -266,8 +266,9 @@ module _ (list : ListArray) (plan : PlanArray) (r : Ready list plan) (i : ℕ) (
   pub share-≤ : sharesBroken (net list) (groupsIn list plan) (sharesIn list plan) ≡ false → getD (plan .shares) i 0 ≤ all
   share-≤ h = kept _ _ _ i _ _ _ _ _ entry-with h (omega (arith, sites-count list plan r))
 
-  pub whole-lt : siteIn .litres < 2 ^ 32 → all < 2 ^ 42
+  pub whole-≤ : all ≤ siteIn .litres * 576
   unfolding whole
-  whole-lt w =
-      subst (λ n. n < 2 ^ 42) e
-      (product-lt _ _ (subst (λ (s : Site). s .litres < 2 ^ 32) (sym (site-is list (r .places .0) (r .counted .sites) i l)) w) (size-few list (groupsIn list plan) _))
+  whole-≤ =
+      subst (λ n. n ≤ siteIn .litres * 576) e
+      (subst (λ (s : Site). s .litres * groupSize (net list) (groupsIn list plan) (carrier (groupsIn list plan) s) ≤ siteIn .litres * 576) (sym (site-is list (r .places .0) (r .counted .sites) i l))
+      (mul-le-mul (le-refl (siteIn .litres)) (size-few list (groupsIn list plan) _)))

@@ -17,14 +17,14 @@ use Rattle.sets.proofs.Member.{has-setOf}
 use Rattle.density.specs.declared.Site.{Site}
 use Rattle.density.specs.Network.{Listing, Network, noSite, network}
 use Rattle.density.specs.Plan.{place, carrier, groupSize, groupLitres, secondShare, shareOf, target}
-use Rattle.density.specs.Rows.{scaledLoad, loadsUneven, groupsRise}
+use Rattle.density.specs.Rows.{sharesBroken, scaledLoad, loadsUneven, groupsRise}
 use Rattle.records.specs.declared.ListArray.{ListArray}
 use Rattle.records.specs.declared.PlanArray.{PlanArray}
 use Rattle.records.specs.Values.{listing}
-use Rattle.verify.specs.Tables.{net, groupsIn, sharesIn, Holds, Ready, Placed, Litres, Entry}
-use Rattle.verify.proofs.Sites.{count-is, site-is}
+use Rattle.verify.specs.Tables.{net, groupsIn, sharesIn, Holds, Ready, Placed, Litres, Lent, Wholes, partOf, Parts, Entry}
+use Rattle.verify.proofs.Sites.{count-is, site-is, site-small}
 use Rattle.verify.proofs.Arrays.{added}
-use Rattle.verify.proofs.Shares.{sites-count, place-lt}
+use Rattle.verify.proofs.Shares.{sites-count, place-lt, entry-with, share-≤, whole-≤}
 
 -- the array has, at each place k, the terms f k of the first i sites added up; a term is at most c
 pub record Summed (f : ℕ → ℕ → ℕ) (c : ℕ) (a : List ℕ) (i : ℕ) : Type 0 where
@@ -98,11 +98,26 @@ pub share-of : (N : Network) (gs ss : List ℕ) (i : ℕ) (s : Site) (a b all x 
 unfolding shareOf secondShare
 share-of N gs ss i s a b all x e d = rw (e .site, e .whole, e .share)
 
-pub loads-end : (list : ListArray) (plan : PlanArray) → Ready list plan → (a : List ℕ) (i : ℕ) → i ≡ list .count
-    → Summed (shareOf (net list) (groupsIn list plan) (sharesIn list plan)) (2 ^ 42) a i
-    → Holds a (scaledLoad (net list) (groupsIn list plan) (sharesIn list plan)) 64
-unfolding scaledLoad
-loads-end list plan r a i e h k l = h .is k l ∙ ap (sum _) (e ∙ sym (sites-count list plan r))
+-- the parts of the sites are small, and add up to the scaled load
+module _ (list : ListArray) (plan : PlanArray) (r : Ready list plan) (shares wholes : List ℕ) (v : Lent plan shares) (w : Wholes list plan wholes) where
+  pub parts : sharesBroken (net list) (groupsIn list plan) (sharesIn list plan) ≡ false → Parts list shares wholes
+  parts h =
+      record {
+        sites = r .counted .sites;
+        lengths = (v .1, w .0);
+        depots = λ i l. site-small list (r .places .0) (r .counted .sites) (r .counted .range) i l;
+        fit = λ i l.
+            let e = sym (w .1 i l) in
+            (rw (v .0) (share-≤ list plan r i l (getD wholes i 0) e h), whole-≤ list plan r i l (getD wholes i 0) e);
+      }
+
+  pub parts-load : (a : List ℕ) → Holds a (λ d. sum (partOf list shares wholes d) (list .count)) 64 → Holds a (scaledLoad (net list) (groupsIn list plan) (sharesIn list plan)) 64
+  unfolding scaledLoad
+  parts-load a h k l =
+      h k l
+      ∙ sum-cong _ _ (list .count)
+      (λ j m. rw (v .0) (sym (share-of _ _ _ j _ _ _ (getD wholes j 0) (getD (plan .shares) j 0) (entry-with list plan r j m (getD wholes j 0) (sym (w .1 j m))) k)))
+      ∙ ap (sum _) (sym (sites-count list plan r))
 
 -- ---- row 15
 

@@ -7,6 +7,7 @@ use Prim.Native.Nat.{ℕ, _<_, _^_}
 use native.Mathlib.Omega.{arith}
 use lib.ListN.{length, getD, take}
 use lib.Seq.{getD-take, length-take-le}
+use Rattle.sets.specs.Sum.{sum}
 use Rattle.sets.specs.Set.{setOf}
 use Rattle.density.specs.Network.{Listing, Network, network}
 use Rattle.density.specs.Plan.{place, groupSize}
@@ -19,10 +20,11 @@ use Rattle.verify.specs.declared.Verdict.the-variants.{Passes, Refused}
 use Rattle.verify.specs.declared.Tally.{Tally}
 use Rattle.verify.specs.declared.Form.{Form}
 use Rattle.verify.specs.Verdict.{verdict}
-use Rattle.verify.specs.Tables.{net, groupsIn, sharesIn, Holds, Counted, Ready, Tables, Litres, Tallied, formRows, Formed, Small}
+use Rattle.verify.specs.Tables.{net, groupsIn, sharesIn, Holds, Counted, Ready, Tables, Litres, Lent, Tallied, partOf, Parts, Levels, formRows, Kept, Formed, Small}
 use Rattle.density.proofs.Lists.{valid}
 use Rattle.verify.proofs.Groups.{unlisted-is, listed-is}
 use Rattle.verify.proofs.Shares.{sizes-few}
+use Rattle.verify.proofs.Totals.{parts, parts-load}
 
 never : (n : ℕ) → Refused n ≡ Passes → ⊥
 never n e = let z : _≡_ {A = ℕ} 0 1 = cc in omega arith
@@ -144,3 +146,18 @@ formed list plan n wide deep low places sizes tabled t ws long found v e =
   where
     is : v ≡ verdict (firstRow (take 3 (planRows (net list) (groupsIn list plan) (sharesIn list plan))))
     is = e ∙ form-rows (net list) (groupsIn list plan) (sharesIn list plan) (t .listed) (t .broken) (found .0) (λ u. found .1 (ready list plan n wide deep low u) .broken)
+
+-- what the scaled loads are summed from, and what row 15 is tried on
+module _ {list : ListArray} {plan : PlanArray} {r : Form} {ws : List ℕ} (k : Kept list plan r ws) (shares : List ℕ) (v : Lent plan shares) where
+  pub kept-parts : Parts list shares ws
+  kept-parts = parts list plan (k .ready) shares ws v (k .wholes) (k .shares)
+
+  pub kept-levels : (sums : List ℕ) → Holds sums (λ d. sum (partOf list shares ws d) (list .count)) 64 → Levels list plan (r .listed) (r .places) (r .litres) sums
+  kept-levels sums h =
+      record {
+        ready = k .ready;
+        listed = k .listed;
+        place = k .tables .place;
+        litres = k .litres .1;
+        loads = parts-load list plan (k .ready) shares ws v (k .wholes) sums h;
+      }

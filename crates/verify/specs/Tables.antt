@@ -2,14 +2,15 @@
 use mathlib.Core.Path.{_≡_}
 use mathlib.Core.Bool.{Bool, false, not}
 use mathlib.Core.List.{List, [], _∷_}
-use Prim.Native.Nat.{ℕ, _*_, _≤_, _<_, _^_}
+use Prim.Native.Nat.{ℕ, _+_, _-_, _*_, _≤_, _<_, _^_}
 use lib.Dec.{T, eqb}
 use lib.ListN.{length, getD, take}
+use Rattle.sets.specs.Sum.{when}
 use Rattle.sets.specs.Set.{setOf}
 use Rattle.density.specs.declared.Site.{Site}
 use Rattle.density.specs.Network.{Network, noSite, network, depotsInRange}
 use Rattle.density.specs.Plan.{union, place, groupSize, groupLitres, whole, firstShare}
-use Rattle.density.specs.Rows.{Row, row, firstRow, groupsMeet, sharesBroken, planRows}
+use Rattle.density.specs.Rows.{Row, row, firstRow, groupsMeet, sharesBroken, scaledLoad, loadsUneven, planRows}
 use Rattle.records.specs.declared.ListArray.{ListArray}
 use Rattle.records.specs.declared.PlanArray.{PlanArray}
 use Rattle.records.specs.Values.{listing, planIn}
@@ -65,6 +66,10 @@ pub record Litres (list : ListArray) (places litres : List ℕ) : Type 0 where
   pub is : (gs : List ℕ) → Holds places (place gs) 64 → Holds litres (groupLitres (net list) gs) 64
   pub low : (k : ℕ) → k < 64 → getD litres k 0 ≤ 512 * 2 ^ 32
 
+-- a plan's shares, lent beside it so that they are not copied
+abbrev pub Lent : PlanArray → List ℕ → Type 0
+Lent plan shares = (shares ≡ plan .shares) × (length shares ≡ 512)
+
 -- w × q of each site
 abbrev pub Wholes : ListArray → PlanArray → List ℕ → Type 0
 Wholes list plan wholes = (length wholes ≡ 512) × Holds wholes (whole (net list) (groupsIn list plan)) (list .count)
@@ -73,6 +78,31 @@ Wholes list plan wholes = (length wholes ≡ 512) × Holds wholes (whole (net li
 pub record Tallied (list : ListArray) (plan : PlanArray) (places : List ℕ) (r : Tally) (ws : List ℕ) : Type 0 where
   pub broken : r .broken ≡ sharesBroken (net list) (groupsIn list plan) (sharesIn list plan)
   pub sums : r .broken ≡ false → Litres list places (r .litres) × Wholes list plan ws
+
+-- what depot d has of site i, of its share and its w × q
+abbrev pub partOf : ListArray → List ℕ → List ℕ → ℕ → ℕ → ℕ
+partOf list shares wholes d i =
+    when (eqb (getD (list .sites) i noSite .first) d) (getD shares i 0) + when (eqb (getD (list .sites) i noSite .second) d) (getD wholes i 0 - getD shares i 0)
+
+-- shares that are at most w × q
+pub record Parts (list : ListArray) (shares wholes : List ℕ) : Type 0 where
+  pub sites : list .count ≤ 512
+  pub lengths : (length shares ≡ 512) × (length wholes ≡ 512)
+  pub depots : (i : ℕ) → i < list .count → (getD (list .sites) i noSite .first < 64) × (getD (list .sites) i noSite .second < 64)
+  pub fit : (i : ℕ) → i < list .count → (getD shares i 0 ≤ getD wholes i 0) × (getD wholes i 0 ≤ getD (list .sites) i noSite .litres * 576)
+
+-- what row 15 is tried on: the listed depots, their places, W of each group and each depot's scaled load
+pub record Levels (list : ListArray) (plan : PlanArray) (all : ℕ) (places weights sums : List ℕ) : Type 0 where
+  pub ready : Ready list plan
+  pub listed : all ≡ setOf (net list .listed) 64
+  pub place : Holds places (place (groupsIn list plan)) 64
+  pub litres : Litres list places weights
+  pub loads : Holds sums (scaledLoad (net list) (groupsIn list plan) (sharesIn list plan)) 64
+
+-- b says whether row 15 applies
+abbrev pub Uneven : ℕ → List ℕ → List ℕ → List ℕ → Bool → Type 0
+Uneven all places litres loads b =
+    (list : ListArray) (plan : PlanArray) → Levels list plan all places litres loads → b ≡ loadsUneven (net list) (groupsIn list plan) (sharesIn list plan)
 
 -- rows 12 to 14, of groups, the listed depots, and whether a share breaks a rule
 abbrev pub formRows : List ℕ → ℕ → Bool → List Row

@@ -4,18 +4,19 @@ use records::ListArray;
 use records::PlanArray;
 use records::scan;
 ghost use mathlib.Core.Path.{_≡_};
-ghost use mathlib.Core.Bool.{false, cond, not, _||_};
+ghost use mathlib.Core.Bool.{true, cond, not, _||_};
 ghost use mathlib.Core.List.{List};
 ghost use Prim.Native.Nat.{ℕ, _+_, _*_, _<_, _≤_, _^_, max};
 ghost use lib.Dec.{T};
 ghost use lib.ListN.{length, getD, take, replicate};
+ghost use Rattle.sets.specs.Sum.{sum};
 ghost use Rattle.sets.specs.Set.{_∪_, _∩_, has, setOf, isEmpty};
 ghost use Rattle.density.specs.Network.{Listing, Network, names, network, depotsInRange, size};
 ghost use Rattle.density.specs.Plan.{union, place, groupSize, groupLitres};
-ghost use Rattle.density.specs.Rows.{firstRow, groupsMeet, shareBroken, sharesBroken, scaledLoad, loadsUneven, groupsRise, planRows};
+ghost use Rattle.density.specs.Rows.{firstRow, groupsMeet, shareBroken, groupsRise, planRows};
 ghost use Rattle.records.specs.Values.{listing};
 ghost use Rattle.verify.specs.Verdict.{verdict};
-ghost use Rattle.verify.specs.Tables.{net, groupsIn, sharesIn, Holds, Counted, Ready, Tables, Placed, Litres, Wholes, Tallied, formRows, Formed, Entry, Small};
+ghost use Rattle.verify.specs.Tables.{net, groupsIn, sharesIn, Holds, Counted, Ready, Tables, Placed, Litres, Lent, Tallied, partOf, Parts, Uneven, formRows, Formed, Entry, Small};
 
 // What the check answers: a refusal is the row's number.
 pub enum Verdict {
@@ -195,7 +196,7 @@ fn is_broken(s: Site, a: u8, b: u8, all: u64, share: u64) -> bool
     scan::either(share < least, most < share)
 }
 
-// One pass over the sites: the listed depots and W of each group; w × q of each site goes to `wholes`. It ends at a share that breaks a rule, and at a site without a group: there the groups are not the listed depots, and row 13 refuses the plan. The plan's shares are lent beside it, so that they are not copied.
+// One pass over the sites: the listed depots and W of each group; w × q of each site goes to `wholes`. It ends at a share that breaks a rule, and at a site without a group: there the groups are not the listed depots, and row 13 refuses the plan.
 fn add_up(
     list: ListArray,
     plan: PlanArray,
@@ -204,7 +205,7 @@ fn add_up(
     sizes: &[u64],
     wholes: &mut [u64],
 ) -> Tally
-    requires { ⌜ Counted list plan × Tables list plan (now places) (now sizes) × (now shares ≡ plan .shares) × (length (now shares) ≡ 512) × (length (now wholes) ≡ 512) ⌝ }
+    requires { ⌜ Counted list plan × Tables list plan (now places) (now sizes) × Lent plan (now shares) × (length (now wholes) ≡ 512) ⌝ }
     ensures { λ r. ⌜ (r .listed ≡ setOf (net list .listed) 64) × (Ready list plan → Tallied list plan (now (places .entry)) r (now (wholes .exit))) ⌝ }
 {
     let mut set: u64 = 0;
@@ -262,18 +263,16 @@ pub fn litres(list: ListArray, places: &[u8]) -> [u64; 64]
 }
 
 // For each of the 64 depots, its scaled load: the array, all zero, is passed and returned by value, and one place is changed for each end of a site.
-fn loads(zero: [u64; 64], list: ListArray, plan: PlanArray, wholes: &[u64]) -> [u64; 64]
-    requires { ⌜ zero ≡ replicate 64 0 ⌝ }
-    requires { ⌜ Ready list plan × Wholes list plan (now wholes) ⌝ }
-    requires { ⌜ sharesBroken (net list) (groupsIn list plan) (sharesIn list plan) ≡ false ⌝ }
-    ensures { λ r. ⌜ Holds r (scaledLoad (net list) (groupsIn list plan) (sharesIn list plan)) 64 ⌝ }
+fn loads(zero: [u64; 64], list: ListArray, shares: &[u64], wholes: &[u64]) -> [u64; 64]
+    requires { ⌜ (zero ≡ replicate 64 0) × Parts list (now shares) (now wholes) ⌝ }
+    ensures { λ r. ⌜ Holds r (λ d. sum (partOf list (now (shares .entry)) (now (wholes .entry)) d) (list .count)) 64 ⌝ }
 {
     let mut r = zero;
     let mut i: usize = 0;
     while i < list.count {
         let s = list.sites[i];
         let all = wholes[i];
-        let share = plan.shares[i];
+        let share = shares[i];
         let a = s.first as usize;
         let b = s.second as usize;
         r[a] = r[a] + share;
@@ -290,23 +289,12 @@ fn level(w: u64) -> u64
     w
 }
 
-// Row 15: `all` are the listed depots.
-fn loads_uneven(
-    all: u64,
-    list: ListArray,
-    plan: PlanArray,
-    places: &[u8],
-    litres: &[u64],
-    wholes: &[u64],
-) -> bool
-    requires { ⌜ all ≡ setOf (net list .listed) 64 ⌝ }
-    requires { ⌜ Ready list plan × Wholes list plan (now wholes) ⌝ }
-    requires { ⌜ sharesBroken (net list) (groupsIn list plan) (sharesIn list plan) ≡ false ⌝ }
-    requires { ⌜ (length (now places) ≡ 64) × Holds (now places) (place (groupsIn list plan)) 64 ⌝ }
-    requires { ⌜ (length (now litres) ≡ 64) × Litres list (now places) (now litres) ⌝ }
-    ensures { λ r. ⌜ r ≡ loadsUneven (net list) (groupsIn list plan) (sharesIn list plan) ⌝ }
+// Row 15: `all` are the listed depots, `sums` the scaled loads.
+fn loads_uneven(all: u64, places: &[u8], litres: &[u64], sums: &[u64]) -> bool
+    requires { ⌜ (length (now places) ≡ 64) × (length (now litres) ≡ 64) × (length (now sums) ≡ 64) ⌝ }
+    requires { ⌜ ((d : ℕ) → d < 64 → has all d ≡ true → getD (now places) d 0 < 64) ⌝ }
+    ensures { λ r. ⌜ Uneven all (now (places .entry)) (now (litres .entry)) (now (sums .entry)) r ⌝ }
 {
-    let sums = loads([0u64; 64], list, plan, wholes);
     let mut d: u8 = 0;
     while d < 64 {
         if sets::contains(all, d) {
@@ -352,8 +340,8 @@ fn form_of(groups: &[u64], listed: u64, broken: bool) -> Verdict
 }
 
 // Rows 12 to 14, and what the later rows are tried on; w × q of each site goes to `wholes`.
-fn try_form(list: ListArray, plan: PlanArray, wholes: &mut [u64]) -> Form
-    requires { ⌜ Counted list plan × (length (now wholes) ≡ 512) ⌝ }
+fn try_form(list: ListArray, plan: PlanArray, shares: &[u64], wholes: &mut [u64]) -> Form
+    requires { ⌜ Counted list plan × Lent plan (now shares) × (length (now wholes) ≡ 512) ⌝ }
     ensures { λ r. ⌜ Formed list plan r (now (wholes .exit)) ⌝ }
 {
     let n = plan.count;
@@ -361,8 +349,7 @@ fn try_form(list: ListArray, plan: PlanArray, wholes: &mut [u64]) -> Form
     let groups = &sets[..n];
     let at = places(groups);
     let q = sizes(groups);
-    let shares = plan.shares;
-    let t = add_up(list, plan, &shares, &at, &q, wholes);
+    let t = add_up(list, plan, shares, &at, &q, wholes);
     let verdict = form_of(groups, t.listed, t.broken);
     let litres = t.litres;
     Form {
@@ -379,8 +366,9 @@ pub fn form_row(list: ListArray, plan: PlanArray) -> Verdict
     requires { ⌜ Counted list plan ⌝ }
     ensures { λ r. ⌜ r ≡ verdict (firstRow (take 3 (planRows (net list) (groupsIn list plan) (sharesIn list plan)))) ⌝ }
 {
+    let shares = plan.shares;
     let mut wholes = [0u64; 512];
-    let f = try_form(list, plan, &mut wholes);
+    let f = try_form(list, plan, &shares, &mut wholes);
     f.verdict
 }
 
@@ -389,8 +377,9 @@ pub fn plan_row(list: ListArray, plan: PlanArray) -> Verdict
     requires { ⌜ Counted list plan ⌝ }
     ensures { λ r. ⌜ r ≡ verdict (firstRow (planRows (net list) (groupsIn list plan) (sharesIn list plan))) ⌝ }
 {
+    let shares = plan.shares;
     let mut wholes = [0u64; 512];
-    let f = try_form(list, plan, &mut wholes);
+    let f = try_form(list, plan, &shares, &mut wholes);
     let verdict = f.verdict;
     if let Verdict::Refused(row) = verdict {
         return Verdict::Refused(row);
@@ -398,7 +387,8 @@ pub fn plan_row(list: ListArray, plan: PlanArray) -> Verdict
     let at = f.places;
     let q = f.sizes;
     let w = f.litres;
-    if loads_uneven(f.listed, list, plan, &at, &w, &wholes) {
+    let sums = loads([0u64; 64], list, &shares, &wholes);
+    if loads_uneven(f.listed, &at, &w, &sums) {
         return Verdict::Refused(15);
     }
     if groups_rise(plan.count, &w, &q) {

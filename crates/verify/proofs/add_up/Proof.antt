@@ -18,7 +18,7 @@ abbrev μ-loop : tie.MeasureT-loop
 μ-loop plan shares places sizes wholes₀ list set₀ litres₀ i₀ wholes set litres i = list .count - i
 
 loop-holds : tie.Need-loop-holds Inv-loop μ-loop
-loop-holds c = (search needs, named-start (c .before .before .before .before .args .t1 .sites), pass-start _ _ _ _ (c .before .before .before .before .pre .4))
+loop-holds c = (search needs, named-start (c .before .before .before .before .args .t1 .sites), pass-start _ _ _ _ (c .before .before .before .before .pre .3))
 
 mul-s : tie.Need-mul-s Inv-loop μ-loop
 mul-s c = omega (arith, c .before .before .before .before .before .before .pre .0 .sites)
@@ -27,10 +27,10 @@ element-copy-out-s : tie.Need-element-copy-out-s Inv-loop μ-loop
 element-copy-out-s c = omega (arith, c .before .before .before .before .before .before .pre .0 .sites)
 
 mul-share : tie.Need-mul-share Inv-loop μ-loop
-mul-share c = omega (arith, c .before .before .before .before .before .before .before .pre .0 .sites, c .before .before .before .before .before .before .before .pre .3)
+mul-share c = omega (arith, c .before .before .before .before .before .before .before .pre .0 .sites, c .before .before .before .before .before .before .before .pre .2 .1)
 
 shared-slice-read-share : tie.Need-shared-slice-read-share Inv-loop μ-loop
-shared-slice-read-share c = omega (arith, c .before .before .before .before .before .before .before .before .pre .0 .sites, c .before .before .before .before .before .before .before .before .pre .3)
+shared-slice-read-share c = omega (arith, c .before .before .before .before .before .before .before .before .pre .0 .sites, c .before .before .before .before .before .before .before .before .pre .2 .1)
 
 cast-a : tie.Need-cast-a Inv-loop μ-loop
 cast-a c = search needs
@@ -64,12 +64,12 @@ listed-requires : tie.Need-listed-requires Inv-loop μ-loop
 listed-requires c κs = (c .before .before .before .before .before .before .before .before .before .before .before .before .before .before .before .pre .0 .sites, c .before .before .before .before .before .before .before .before .before .before .before .before .before .before .before .pre .0 .range)
 
 same-length : tie.Need-same-length Inv-loop μ-loop
-same-length c = omega (arith, c .before .before .before .before .before .before .before .before .before .before .before .loop .inv .2 .wide, c .before .before .before .before .before .before .before .before .before .before .before .before .before .before .before .before .pre .4)
+same-length c = omega (arith, c .before .before .before .before .before .before .before .before .before .before .before .loop .inv .2 .wide, c .before .before .before .before .before .before .before .before .before .before .before .before .before .before .before .before .pre .3)
 
 returns : tie.Need-returns Inv-loop μ-loop
 returns c =
     let s = c .before .before .before .before .before .before .before .before .before .before .before .before .before .before .before .before in
-    (c .listed .ensures, pass-broken _ _ _ _ _ refl (λ r. absurd (no-group _ _ _ _ _ (s .pre .2) (s .pre .1) (c .before .before .before .before .before .before .before .before .before .before .before .loop .i) (c .before .before .before .before .before .before .before .before .before .before .loop-test .taken) _ (c .before .before .before .later .ensures) (c .before .if1 .taken) r)))
+    (c .listed .ensures, pass-broken _ _ _ _ _ refl (λ r. absurd (no-group _ _ _ _ _ (s .pre .2 .0) (s .pre .1) (c .before .before .before .before .before .before .before .before .before .before .before .loop .i) (c .before .before .before .before .before .before .before .before .before .before .loop-test .taken) _ (c .before .before .before .later .ensures) (c .before .if1 .taken) r)))
 
 litres-of-requires : tie.Need-litres-of-requires Inv-loop μ-loop
 litres-of-requires c κs = search needs
@@ -90,12 +90,12 @@ listed-requires-2 : tie.Need-listed-requires-2 Inv-loop μ-loop
 listed-requires-2 c κs = (c .before .before .before .before .before .before .before .before .before .before .before .before .before .before .before .before .before .before .before .pre .0 .sites, c .before .before .before .before .before .before .before .before .before .before .before .before .before .before .before .before .before .before .before .pre .0 .range)
 
 same-length-2 : tie.Need-same-length-2 Inv-loop μ-loop
-same-length-2 c = omega (arith, c .before .before .before .before .before .before .before .before .before .before .before .before .before .before .before .loop .inv .2 .wide, c .before .before .before .before .before .before .before .before .before .before .before .before .before .before .before .before .before .before .before .before .pre .4)
+same-length-2 c = omega (arith, c .before .before .before .before .before .before .before .before .before .before .before .before .before .before .before .loop .inv .2 .wide, c .before .before .before .before .before .before .before .before .before .before .before .before .before .before .before .before .before .before .before .before .pre .3)
 
 returns-2 : tie.Need-returns-2 Inv-loop μ-loop
 returns-2 c =
     let s = c .before .before .before .before .before .before .before .before .before .before .before .before .before .before .before .before .before .before .before .before in
-    (c .listed2 .ensures, pass-broken _ _ _ _ _ refl (broken-here _ _ _ _ _ (s .pre .2) (s .pre .1) (c .before .before .before .before .before .before .before .before .before .before .before .before .before .before .before .loop .i) (c .before .before .before .before .before .before .before .before .before .before .before .before .before .before .loop-test .taken) (c .before .before .before .before .before .before .before .later .result) (c .before .before .before .before .before .before .before .later .ensures) (c .before .before .before .before .litres-of .result) (c .before .before .before .before .litres-of .ensures) _ (c .before .before .is-broken .ensures) (c .before .if2 .taken)))
+    (c .listed2 .ensures, pass-broken _ _ _ _ _ refl (broken-here _ _ _ _ _ (s .pre .2 .0) (s .pre .1) (c .before .before .before .before .before .before .before .before .before .before .before .before .before .before .before .loop .i) (c .before .before .before .before .before .before .before .before .before .before .before .before .before .before .loop-test .taken) (c .before .before .before .before .before .before .before .later .result) (c .before .before .before .before .before .before .before .later .ensures) (c .before .before .before .before .litres-of .result) (c .before .before .before .before .litres-of .ensures) _ (c .before .before .is-broken .ensures) (c .before .if2 .taken)))
 
 name-requires : tie.Need-name-requires Inv-loop μ-loop
 name-requires c κs =
@@ -141,12 +141,12 @@ loop-again c =
     let h = c .before .before .before .before .before .before .before .before .before .before .before .before .before .before .before .loop .inv in (
       search needs,
       c .name .ensures ∙ named-more (list .sites) (c .before .before .before .before .before .before .before .before .before .before .before .before .before .before .before .loop .i) _ (h .1),
-      pass-more list (s .args .plan) (s .args .shares .now) (s .args .places .now) (s .args .sizes .now) (s .pre .2) (s .pre .1) (c .before .before .before .before .before .before .before .before .before .before .before .before .before .before .before .loop .i) (c .before .before .before .before .before .before .before .before .before .before .before .before .before .before .loop-test .taken) (c .before .before .before .before .before .before .before .later .result) (c .before .before .before .before .before .before .before .later .ensures) (c .before .before .before .before .litres-of .result) (c .before .before .before .before .litres-of .ensures) _ (c .before .before .is-broken .ensures)
+      pass-more list (s .args .plan) (s .args .shares .now) (s .args .places .now) (s .args .sizes .now) (s .pre .2 .0) (s .pre .1) (c .before .before .before .before .before .before .before .before .before .before .before .before .before .before .before .loop .i) (c .before .before .before .before .before .before .before .before .before .before .before .before .before .before .loop-test .taken) (c .before .before .before .before .before .before .before .later .result) (c .before .before .before .before .before .before .before .later .ensures) (c .before .before .before .before .litres-of .result) (c .before .before .before .before .litres-of .ensures) _ (c .before .before .is-broken .ensures)
           _ _ _ _ (h .2) (c .before .if2 .left) (omega (arith, c .before .before .before .before .before .if1 .left, s .pre .0 .groups)) (s .pre .0 .sites) refl refl,
     )
 
 same-length-3 : tie.Need-same-length-3 Inv-loop μ-loop
-same-length-3 c = omega (arith, c .before .loop .inv .2 .wide, c .before .before .before .before .before .before .pre .4)
+same-length-3 c = omega (arith, c .before .loop .inv .2 .wide, c .before .before .before .before .before .before .pre .3)
 
 returns-3 : tie.Need-returns-3 Inv-loop μ-loop
 returns-3 c =

@@ -1,26 +1,23 @@
 -- `verify::loads_uneven` meets its contract. The invariant: no depot passed is listed and uneven. Assumes nothing.
-use mathlib.Core.Path.{_≡_, refl, sym, ap, _∙_}
+use mathlib.Core.Path.{_≡_, sym, ap, _∙_}
+use mathlib.Core.Logic.{⊎-elim}
+use mathlib.Core.Bool.{false}
 use Prim.Native.Nat.{_-_, _≤_}
 use native.Mathlib.Omega.{arith}
-use mathlib.Core.Bool.{false}
-use mathlib.Core.Logic.{⊎-elim}
 use Rattle.sets.specs.Sum.{any}
+use Rattle.sets.proofs.Set.{any-start, any-more, any-here}
 use Rattle.density.specs.Network.{Listing}
 use Rattle.records.specs.Values.{listing}
-use Rattle.sets.proofs.Set.{any-start, any-more, any-here}
-use Rattle.verify.proofs.Totals.{unevenAt, uneven-is, listed-place, uneven-here, even-here, unlisted-here}
+use Rattle.verify.proofs.Totals.{unevenAt, uneven-is, uneven-here, even-here, unlisted-here}
 use borrow.Author.Needs.{needs}
 use Rattle.verify.proofs.loads_uneven.Statement.{statement}
 use Rattle.verify.proofs.loads_uneven.Tie as tie
 
 abbrev Inv-loop : tie.InvT-loop
-Inv-loop all places litres wholes sums d₀ d = (d ≤ 64) × ((l : Listing) → any (unevenAt l all sums places litres) d ≡ false)
+Inv-loop all places litres sums d₀ d = (d ≤ 64) × ((l : Listing) → any (unevenAt l all sums places litres) d ≡ false)
 
 abbrev μ-loop : tie.MeasureT-loop
-μ-loop all places litres wholes sums d₀ d = 64 - d
-
-loads-requires : tie.Need-loads-requires Inv-loop μ-loop
-loads-requires c κs = (refl, (c .before .before .before .pre .1 .0, c .before .before .before .pre .1 .1 .0))
+μ-loop all places litres sums d₀ d = 64 - d
 
 loop-holds : tie.Need-loop-holds Inv-loop μ-loop
 loop-holds c = (search needs, λ l. any-start _)
@@ -32,22 +29,16 @@ cast-w : tie.Need-cast-w Inv-loop μ-loop
 cast-w c = omega (arith, c .before .before .loop-test .taken)
 
 shared-slice-read-w : tie.Need-shared-slice-read-w Inv-loop μ-loop
-shared-slice-read-w c = omega (arith, c .before .before .before .before .before .before .before .before .before .pre .1 .1 .1 .0 .0, c .before .before .before .loop-test .taken)
+shared-slice-read-w c = omega (arith, c .before .before .before .before .before .before .before .before .pre .0 .0, c .before .before .before .loop-test .taken)
 
 cast-w-2 : tie.Need-cast-w-2 Inv-loop μ-loop
-cast-w-2 c =
-    let s = c .before .before .before .before .before .before .before .before .before in
-    omega (arith, listed-place (s .args .list) (s .args .plan) (s .pre .1 .0 .0) (s .args .places .now) (s .pre .1 .1 .1 .0 .1) (s .args .all) (c .before .before .before .before .loop .d) (s .pre .0) (c .before .before .before .loop-test .taken) (sym (c .before .before .contains .ensures) ∙ c .before .if1 .taken))
+cast-w-2 c = omega (arith, c .before .before .before .before .before .before .before .before .pre .1 (c .before .before .before .before .loop .d) (c .before .before .before .loop-test .taken) (sym (c .before .before .contains .ensures) ∙ c .before .if1 .taken))
 
 mul-w : tie.Need-mul-w Inv-loop μ-loop
-mul-w c =
-    let s = c .before .before .before .before .before .before .before .before .before in
-    omega (arith, listed-place (s .args .list) (s .args .plan) (s .pre .1 .0 .0) (s .args .places .now) (s .pre .1 .1 .1 .0 .1) (s .args .all) (c .before .before .before .before .loop .d) (s .pre .0) (c .before .before .before .loop-test .taken) (sym (c .before .before .contains .ensures) ∙ c .before .if1 .taken))
+mul-w c = omega (arith, c .before .before .before .before .before .before .before .before .pre .1 (c .before .before .before .before .loop .d) (c .before .before .before .loop-test .taken) (sym (c .before .before .contains .ensures) ∙ c .before .if1 .taken))
 
 shared-slice-read-w-2 : tie.Need-shared-slice-read-w-2 Inv-loop μ-loop
-shared-slice-read-w-2 c =
-    let s = c .before .before .before .before .before .before .before .before .before .before in
-    omega (arith, listed-place (s .args .list) (s .args .plan) (s .pre .1 .0 .0) (s .args .places .now) (s .pre .1 .1 .1 .0 .1) (s .args .all) (c .before .before .before .before .before .loop .d) (s .pre .0) (c .before .before .before .before .loop-test .taken) (sym (c .before .before .before .contains .ensures) ∙ c .before .before .if1 .taken), s .pre .1 .1 .1 .1 .0)
+shared-slice-read-w-2 c = omega (arith, c .before .before .before .before .before .before .before .before .before .pre .1 (c .before .before .before .before .before .loop .d) (c .before .before .before .before .loop-test .taken) (sym (c .before .before .before .contains .ensures) ∙ c .before .before .if1 .taken), c .before .before .before .before .before .before .before .before .before .pre .0 .1)
 
 cast-if2 : tie.Need-cast-if2 Inv-loop μ-loop
 cast-if2 c = omega (arith, c .before .before .before .before .loop-test .taken)
@@ -55,18 +46,18 @@ cast-if2 c = omega (arith, c .before .before .before .before .loop-test .taken)
 mul-if2 : tie.Need-mul-if2 Inv-loop μ-loop
 mul-if2 c = omega (arith, c .before .before .before .before .loop-test .taken)
 
-array-read-if2 : tie.Need-array-read-if2 Inv-loop μ-loop
-array-read-if2 c = omega (arith, c .before .before .before .before .loop-test .taken)
+shared-slice-read-if2 : tie.Need-shared-slice-read-if2 Inv-loop μ-loop
+shared-slice-read-if2 c = omega (arith, c .before .before .before .before .before .loop-test .taken, c .before .before .before .before .before .before .before .before .before .before .pre .0 .2)
 
 level-requires : tie.Need-level-requires Inv-loop μ-loop
 level-requires c κs = search needs
 
 returns : tie.Need-returns Inv-loop μ-loop
-returns c =
+returns c = λ list plan v.
     let s = c .before .before .before .before .before .before .before .before .before .before .before .before in
-    let d = c .before .before .before .before .before .before .before .loop .d in
-    let is = uneven-is (s .args .list) (s .args .plan) (s .pre .1 .0 .0) (s .args .places .now) (s .pre .1 .1 .1 .0 .1) (s .args .litres .now) (s .pre .1 .1 .1 .1 .1) (s .args .all) (s .pre .0) (c .before .before .before .before .before .before .before .before .loads .result) (c .before .before .before .before .before .before .before .before .loads .ensures) in
-    sym (sym is ∙ any-here _ 64 d (c .before .before .before .before .before .before .loop-test .taken) (uneven-here (listing (s .args .list)) (s .args .all) (c .before .before .before .before .before .before .before .before .loads .result) (s .args .places .now) (s .args .litres .now) d (sym (c .before .before .before .before .before .contains .ensures) ∙ c .before .before .before .before .if1 .taken) (c .before .level .result) (c .before .level .ensures (listing (s .args .list)) d) (c .if2 .taken)))
+    let d = c .before .before .before .before .before .before .before .before .loop .d in
+    let is = uneven-is list plan (v .ready) (s .args .places .now) (v .place) (s .args .litres .now) (v .litres) (s .args .all) (v .listed) (s .args .sums .now) (v .loads) in
+    sym (sym is ∙ any-here _ 64 d (c .before .before .before .before .before .before .before .loop-test .taken) (uneven-here (listing list) (s .args .all) (s .args .sums .now) (s .args .places .now) (s .args .litres .now) d (sym (c .before .before .before .before .before .before .contains .ensures) ∙ c .before .before .before .before .before .if1 .taken) (c .before .level .result) (c .before .level .ensures (listing list) d) (c .if2 .taken)))
 
 add-d : tie.Need-add-d Inv-loop μ-loop
 add-d c = search needs
@@ -76,22 +67,22 @@ loop-less c = search needs
 
 loop-again : tie.Need-loop-again Inv-loop μ-loop
 loop-again c =
-    let s = c .before .before .before .before .before .before .before .before in
+    let s = c .before .before .before .before .before .before .before in
     let d = c .before .before .before .loop .d in (
       search needs,
       λ l.
           any-more _ d (c .before .before .before .loop .inv .1 l)
-          (⊎-elim (λ v. even-here l (s .args .all) (c .before .before .before .before .loads .result) (s .args .places .now) (s .args .litres .now) d (v .3 .result) (v .3 .ensures l d) (v .4 .left))
-          (λ v. unlisted-here l (s .args .all) (c .before .before .before .before .loads .result) (s .args .places .now) (s .args .litres .now) d (sym (c .before .contains .ensures) ∙ v .left))
+          (⊎-elim (λ v. even-here l (s .args .all) (s .args .sums .now) (s .args .places .now) (s .args .litres .now) d (v .4 .result) (v .4 .ensures l d) (v .5 .left))
+          (λ v. unlisted-here l (s .args .all) (s .args .sums .now) (s .args .places .now) (s .args .litres .now) d (sym (c .before .contains .ensures) ∙ v .left))
           (c .if1 .came)),
     )
 
 returns-2 : tie.Need-returns-2 Inv-loop μ-loop
-returns-2 c =
-    let s = c .before .before .before .before .before .before in
+returns-2 c = λ list plan v.
+    let s = c .before .before .before .before .before in
     let end : c .before .loop .d ≡ 64 = omega arith in
-    let is = uneven-is (s .args .list) (s .args .plan) (s .pre .1 .0 .0) (s .args .places .now) (s .pre .1 .1 .1 .0 .1) (s .args .litres .now) (s .pre .1 .1 .1 .1 .1) (s .args .all) (s .pre .0) (c .before .before .loads .result) (c .before .before .loads .ensures) in
-    sym (sym is ∙ ap (any _) (sym end) ∙ c .before .loop .inv .1 (listing (s .args .list)))
+    let is = uneven-is list plan (v .ready) (s .args .places .now) (v .place) (s .args .litres .now) (v .litres) (s .args .all) (v .listed) (s .args .sums .now) (v .loads) in
+    sym (sym is ∙ ap (any _) (sym end) ∙ c .before .loop .inv .1 (listing list))
 
 pub loads-uneven-spec : {M : Type 1} → statement M
 loads-uneven-spec =
@@ -99,7 +90,6 @@ loads-uneven-spec =
     (tie.spec
     Inv-loop
     μ-loop
-    loads-requires
     loop-holds
     contains-requires
     cast-w
@@ -109,7 +99,7 @@ loads-uneven-spec =
     shared-slice-read-w-2
     cast-if2
     mul-if2
-    array-read-if2
+    shared-slice-read-if2
     level-requires
     returns
     add-d
