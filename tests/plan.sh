@@ -33,7 +33,7 @@ tools/list.sh <samples/two.txt | cmp - crates/depots/stdin || fail "two.txt: not
 [ "$(printf '' | tools/list.sh | target/bin/plan)" = "0 sites, 0 depots, 0 groups" ] || fail "no sites"
 [ "$(printf '# a\n\n\t08 063  065535 # b' | tools/list.sh | hex)" = 4c5301005354083fffff ] || fail "one site"
 for ((i = 0; i < 512; i++)); do echo "$((i % 64)) $((i % 64)) 65535"; done >"$work/most"
-tools/list.sh <"$work/most" | cmp - crates/depots_full/stdin || fail "512 sites"
+tools/list.sh <"$work/most" | cmp - tests/depots/full.in || fail "512 sites"
 
 # refused TEXT LINE WORDS: list.sh names the line and writes nothing
 refused() {
@@ -56,9 +56,9 @@ refused '0 1 18446744073709551617\n' 1 'the litres are not a number from 1 to 65
 refused '0 1 9.5' 1 'the litres are not a number from 1 to 65535'
 refused "$(cat "$work/most")\n0 0 1\n" 513 'more than 512 sites'
 
-# said ROW WORDS: the program refuses the input of depots_rowROW, in words
+# said ROW WORDS: the program refuses tests/depots/rowROW.in, in words
 said() {
-    [ "$(target/bin/plan <"crates/depots_row$1/stdin")" = "refused $1: $2" ] || fail "row $1"
+    [ "$(target/bin/plan <"tests/depots/row$1.in")" = "refused $1: $2" ] || fail "row $1"
 }
 said 1 'the list has under 4 bytes or does not begin with 4C 53'
 said 2 'the list has more than 512 sites'

@@ -1,11 +1,11 @@
 #!/usr/bin/env bash
-# Tests of the static libraries from Rust and from C, and of the program `plan` with tools/list.sh.
+# Tests of the static libraries from Rust and from C, of the program `plan` with tools/list.sh, and of the first program's stored outputs.
 #
 #     tests/run.sh [--cases N] [--seed S]
 #
 # Builds target/staticlib/libengine.a and libdesk.a by `rt staticlib`, each unless it is there and newer than
 # everything under crates/. With SULGHETI_LIB set, the archives in that folder are tested instead.
-# Builds target/bin/plan and target/bin/console by `rt check`, unless they are there.
+# Builds target/bin/depots, plan and console by `rt check`, which leaves what is unchanged as it is.
 # Needs cargo and a C compiler; no network. Exit status 0: all passed.
 set -euo pipefail
 [ -z "${SULGHETI_LIB:-}" ] || SULGHETI_LIB=$(cd "$SULGHETI_LIB" && pwd)
@@ -17,6 +17,7 @@ mkdir -p target
 
 if [ -z "${SULGHETI_LIB:-}" ]; then
     SULGHETI_LIB=$PWD/target/staticlib
+    # one after the other: two runs of rt at once in one folder read each other's unfinished notes
     for name in engine desk; do
         archive=$SULGHETI_LIB/lib$name.a
         if [ ! -f "$archive" ] || [ -n "$(find crates crates.txt -newer "$archive" -print -quit)" ]; then
@@ -28,10 +29,9 @@ fi
 
 export SULGHETI_LIB
 
-# lists in words, and their plans for a person to read
-if [ ! -x target/bin/plan ] || [ ! -x target/bin/console ]; then
-    rt check plan console >target/programs.log 2>&1 || { cat target/programs.log; exit 1; }
-fi
+# the first program; lists in words, and their plans for a person to read
+rt check depots plan console >target/programs.log 2>&1 || { cat target/programs.log; exit 1; }
+bash tests/depots.sh
 bash tests/plan.sh
 
 # the C programs

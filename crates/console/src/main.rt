@@ -19,18 +19,18 @@
 // A blank line prints nothing, nor does one whose first word begins with `#`. Any other line, and one with a word too many or too few, or with a number too large for its place, prints `bad line`.
 // A line is at most 16,384 bytes long. Of a longer one nothing is carried out, whatever it begins with: it is read to its end and prints one `bad line` there.
 // The last line may lack its newline. An answer is printed as soon as its line is read.
+use edition1::OutOn1;
+use edition1::Request1;
+use edition1::Store1;
+use edition1::call_on1;
+use edition1::fresh1;
 use libc::STDIN_FILENO;
 use libc::STDOUT_FILENO;
 use records::Wrote;
 use script::Number;
 use store::Answer;
-use store::Request1;
-use store::Store1;
-use store::edition1::OutOn1;
-use store::edition1::call_on1;
-use store::edition1::fresh1;
 use table::Site1;
-use verify::Verdict;
+use tables::Verdict;
 ghost use mathlib.Core.Path.{_≡_};
 ghost use Prim.Native.Nat.{_≤_};
 ghost use lib.IntN.{natAbs};
@@ -54,6 +54,31 @@ enum Depot {
 enum Litres {
     Value(u16),
     Bad,
+}
+
+// The words of a line behind its first, as numbers: how many there are, and the first three as what a call may want there.
+struct Fields {
+    count: usize,
+    number: Number,
+    first: Depot,
+    second: Depot,
+    litres: Litres,
+    last: Litres,
+}
+
+// A call of numbers alone, where the line is one.
+enum Parsed {
+    Call(Request1),
+    Bad,
+}
+
+// An answer as it is printed: its name's place among the names, and how many numbers follow it, up to two; the first may be below zero.
+struct Shown {
+    name: usize,
+    numbers: usize,
+    minus: bool,
+    first: u64,
+    second: u64,
 }
 
 // What a read leaves: the state, and whether there may be more to read.
@@ -85,24 +110,37 @@ fn print_bytes(bytes: &[u8]) {
     print(&text[..n]);
 }
 
-fn print_verdict(v: Verdict) {
-    match v {
-        Verdict::Passes => print(b"passes"),
-        Verdict::Refused(row) => print_number(b"refused ", row as u64),
-    }
-    print(b"\n");
-}
-
-fn print_wrote(w: Wrote) {
-    match w {
-        Wrote::Length(n) => print_number(b"length ", n as u64),
-        Wrote::Refused(row) => print_number(b"refused ", row as u64),
+// The name of an answer, from 0 for `refused` to 6 for `passes`.
+fn print_name(k: usize) {
+    let names = *b"refused    done       share      depot      difference length     passes     ";
+    if k < 7 {
+        print(script::word(&names[11 * k..]));
     }
 }
 
-fn print_two(before: &[u8], a: u64, b: u64) {
-    print_number(before, a);
-    print_number(b" ", b);
+fn print_shown(x: Shown) {
+    print_name(x.name);
+    if x.numbers == 0 {
+        return;
+    }
+    if x.minus {
+        print_number(b" -", x.first);
+    } else {
+        print_number(b" ", x.first);
+    }
+    if x.numbers == 2 {
+        print_number(b" ", x.second);
+    }
+}
+
+fn plain(name: usize, numbers: usize, first: u64, second: u64) -> Shown {
+    Shown {
+        name,
+        numbers,
+        minus: false,
+        first,
+        second,
+    }
 }
 
 // How far a number is from 0. The smallest has none above zero of its type, so one is taken off before the sign is.
@@ -115,23 +153,53 @@ fn magnitude(d: i64) -> u64
     d as u64
 }
 
-fn print_difference(d: i64, q: u64) {
-    print(b"difference ");
-    if d < 0 {
-        print(b"-");
+fn shown_difference(d: i64, q: u64) -> Shown {
+    Shown {
+        name: 4,
+        numbers: 2,
+        minus: d < 0,
+        first: magnitude(d),
+        second: q,
     }
-    print_two(b"", magnitude(d), q);
 }
 
-fn print_answer(a: Answer) {
+fn shown_answer(a: Answer) -> Shown {
     match a {
-        Answer::Refused(row) => print_number(b"refused ", row as u64),
-        Answer::Done => print(b"done"),
-        Answer::Share(s, w) => print_two(b"share ", s, w),
-        Answer::Depot(w, q) => print_two(b"depot ", w, q),
-        Answer::Difference(d, q) => print_difference(d, q),
-        Answer::Length(n) => print_number(b"length ", n as u64),
+        Answer::Refused(row) => plain(0, 1, row as u64, 0),
+        Answer::Done => plain(1, 0, 0, 0),
+        Answer::Share(s, w) => plain(2, 2, s, w),
+        Answer::Depot(w, q) => plain(3, 2, w, q),
+        Answer::Difference(d, q) => shown_difference(d, q),
+        Answer::Length(n) => plain(5, 1, n as u64, 0),
     }
+}
+
+fn shown_wrote(w: Wrote) -> Shown {
+    match w {
+        Wrote::Length(n) => plain(5, 1, n as u64, 0),
+        Wrote::Refused(row) => plain(0, 1, row as u64, 0),
+    }
+}
+
+fn shown_verdict(v: Verdict) -> Shown {
+    match v {
+        Verdict::Passes => plain(6, 0, 0, 0),
+        Verdict::Refused(row) => plain(0, 1, row as u64, 0),
+    }
+}
+
+// Prints an answer alone.
+fn print_line(x: Shown) {
+    print_shown(x);
+    print(b"\n");
+}
+
+// Prints an answer and a whole buffer.
+fn print_with(x: Shown, buffer: &[u8]) {
+    print_shown(x);
+    print(b" ");
+    print_bytes(buffer);
+    print(b"\n");
 }
 
 // The check of a list and a plan, both in hexadecimal.
@@ -140,7 +208,7 @@ fn checked(list: &[u8], plan: &[u8]) {
     let mut b = [0u8; 8192];
     let n = script::decode(list, &mut a);
     let m = script::decode(plan, &mut b);
-    print_verdict(judge::check(&a[..n], &b[..m]));
+    print_line(shown_verdict(judge::check(&a[..n], &b[..m])));
 }
 
 // check LIST PLAN
@@ -159,10 +227,8 @@ fn run_check(args: &[u8]) {
 
 // Makes the plan of a list in a buffer, and prints the answer and the buffer.
 fn made_in(list: &[u8], out: &mut [u8]) {
-    print_wrote(maker::make(list, out));
-    print(b" ");
-    print_bytes(out);
-    print(b"\n");
+    let w = maker::make(list, out);
+    print_with(shown_wrote(w), out);
 }
 
 // The plan of a list in hexadecimal, in a buffer of `len` bytes.
@@ -228,8 +294,7 @@ fn called(state: State, request: Request1, input: &[u8]) -> State {
     let mut none = [0u8; 0];
     let out = call_on1(store, table, state.places, request, input, &mut none);
     let answer = out.answer;
-    print_answer(answer);
-    print(b"\n");
+    print_line(shown_answer(answer));
     after(state, out)
 }
 
@@ -270,120 +335,125 @@ fn litres_in(text: &[u8]) -> Litres
     }
 }
 
-// table N
-fn run_table(state: State, args: &[u8]) -> State {
-    let places = script::decimal(script::word(args), 600);
-    let end = script::rest(args);
-    if end.len() != 0 {
-        bad();
-        return state;
+// How many words there are; 4 where they are more.
+fn words(text: &[u8]) -> usize {
+    if text.len() == 0 {
+        return 0;
     }
-    let Number::Value(n) = places else {
-        bad();
-        return state;
-    };
-    print_number(b"table ", n);
-    print(b"\n");
-    desk(state.used, n as usize)
+    let others = script::rest(text);
+    if others.len() == 0 {
+        return 1;
+    }
+    let last = script::rest(others);
+    if last.len() == 0 {
+        return 2;
+    }
+    let end = script::rest(last);
+    if end.len() == 0 { 3 } else { 4 }
+}
+
+fn fields_in(args: &[u8]) -> Fields {
+    let first = script::word(args);
+    let others = script::rest(args);
+    let second = script::word(others);
+    let third = script::word(script::rest(others));
+    Fields {
+        count: words(args),
+        number: script::decimal(first, u64::MAX),
+        first: depot_in(first),
+        second: depot_in(second),
+        litres: litres_in(second),
+        last: litres_in(third),
+    }
 }
 
 // change SITE LITRES
-fn run_change(state: State, args: &[u8]) -> State {
-    let site = script::decimal(script::word(args), u64::MAX);
-    let others = script::rest(args);
-    let litres = litres_in(script::word(others));
-    let end = script::rest(others);
-    if end.len() != 0 {
-        bad();
-        return state;
-    }
+fn change_call(site: Number, litres: Litres) -> Parsed {
     let Number::Value(i) = site else {
-        bad();
-        return state;
+        return Parsed::Bad;
     };
     let Litres::Value(w) = litres else {
-        bad();
-        return state;
+        return Parsed::Bad;
     };
-    called(state, Request1::Change(i as usize, w), b"")
+    Parsed::Call(Request1::Change(i as usize, w))
 }
 
 // add FIRST SECOND LITRES
-fn run_add(state: State, args: &[u8]) -> State {
-    let first = depot_in(script::word(args));
-    let others = script::rest(args);
-    let second = depot_in(script::word(others));
-    let last = script::rest(others);
-    let litres = litres_in(script::word(last));
-    let end = script::rest(last);
-    if end.len() != 0 {
-        bad();
-        return state;
-    }
+fn add_call(first: Depot, second: Depot, litres: Litres) -> Parsed {
     let Depot::Value(f) = first else {
-        bad();
-        return state;
+        return Parsed::Bad;
     };
     let Depot::Value(s) = second else {
-        bad();
-        return state;
+        return Parsed::Bad;
     };
     let Litres::Value(w) = litres else {
-        bad();
-        return state;
+        return Parsed::Bad;
     };
-    called(state, Request1::Add(f, s, w), b"")
+    Parsed::Call(Request1::Add(f, s, w))
 }
 
 // share SITE
-fn run_share(state: State, args: &[u8]) -> State {
-    let site = script::decimal(script::word(args), u64::MAX);
-    let end = script::rest(args);
-    if end.len() != 0 {
-        bad();
-        return state;
+fn share_call(site: Number) -> Parsed {
+    match site {
+        Number::Value(i) => Parsed::Call(Request1::Share(i as usize)),
+        Number::Bad => Parsed::Bad,
     }
-    let Number::Value(i) = site else {
-        bad();
-        return state;
-    };
-    called(state, Request1::Share(i as usize), b"")
 }
 
 // depot D
-fn run_depot(state: State, args: &[u8]) -> State {
-    let depot = depot_in(script::word(args));
-    let end = script::rest(args);
-    if end.len() != 0 {
-        bad();
-        return state;
+fn depot_call(depot: Depot) -> Parsed {
+    match depot {
+        Depot::Value(d) => Parsed::Call(Request1::Depot(d)),
+        Depot::Bad => Parsed::Bad,
     }
-    let Depot::Value(d) = depot else {
-        bad();
-        return state;
-    };
-    called(state, Request1::Depot(d), b"")
 }
 
 // difference A B
-fn run_difference(state: State, args: &[u8]) -> State {
-    let first = depot_in(script::word(args));
-    let others = script::rest(args);
-    let second = depot_in(script::word(others));
-    let end = script::rest(others);
-    if end.len() != 0 {
-        bad();
-        return state;
-    }
+fn difference_call(first: Depot, second: Depot) -> Parsed {
     let Depot::Value(a) = first else {
-        bad();
-        return state;
+        return Parsed::Bad;
     };
     let Depot::Value(b) = second else {
-        bad();
-        return state;
+        return Parsed::Bad;
     };
-    called(state, Request1::Difference(a, b), b"")
+    Parsed::Call(Request1::Difference(a, b))
+}
+
+// The call of the name at that place, where the line has as many words behind it as the call takes.
+fn parse(name: usize, x: Fields) -> Parsed {
+    let count = x.count;
+    let number = x.number;
+    let first = x.first;
+    let second = x.second;
+    let litres = x.litres;
+    let last = x.last;
+    match count {
+        1 => match name {
+            4 => share_call(number),
+            5 => depot_call(first),
+            _ => Parsed::Bad,
+        },
+        2 => match name {
+            6 => change_call(number, litres),
+            7 => difference_call(first, second),
+            _ => Parsed::Bad,
+        },
+        3 => match name {
+            8 => add_call(first, second, last),
+            _ => Parsed::Bad,
+        },
+        _ => Parsed::Bad,
+    }
+}
+
+fn run_parsed(state: State, x: Parsed) -> State {
+    match x {
+        Parsed::Call(request) => called(state, request, b""),
+        Parsed::Bad => {
+            bad();
+            state
+        }
+    }
 }
 
 // Writes the held plan in a buffer, and prints the answer and the buffer.
@@ -392,10 +462,7 @@ fn written_in(state: State, out: &mut [u8]) -> State {
     let table = state.table;
     let r = call_on1(store, table, state.places, Request1::Written, b"", out);
     let answer = r.answer;
-    print_answer(answer);
-    print(b" ");
-    print_bytes(out);
-    print(b"\n");
+    print_with(shown_answer(answer), out);
     after(state, r)
 }
 
@@ -407,52 +474,66 @@ fn written(state: State, len: usize) -> State
     written_in(state, &mut out[..len])
 }
 
+// A number that is the line's only one, and 65,536 where it is none or above that.
+fn only(x: Fields) -> usize {
+    if x.count != 1 {
+        return 65536;
+    }
+    let number = x.number;
+    let Number::Value(n) = number else {
+        return 65536;
+    };
+    if n < 65536 { n as usize } else { 65536 }
+}
+
 // written LEN
-fn run_written(state: State, args: &[u8]) -> State {
-    let len = script::decimal(script::word(args), 8192);
-    let end = script::rest(args);
-    if end.len() != 0 {
+fn run_written(state: State, len: usize) -> State {
+    if 8192 < len {
         bad();
         return state;
     }
-    let Number::Value(n) = len else {
+    written(state, len)
+}
+
+// table N
+fn run_table(state: State, places: usize) -> State {
+    if 600 < places {
         bad();
         return state;
-    };
-    written(state, n as usize)
+    }
+    print_number(b"table ", places as u64);
+    print(b"\n");
+    desk(state.used, places)
+}
+
+// The place of a line's first word among the names, from 0 for `load` to 10 for `make`; 11 where it is none of them.
+fn place(name: &[u8]) -> usize {
+    let names =
+        *b"load       propose    table      written    share      depot      change     difference add        check      make       ";
+    for k in 0..11 {
+        if check::same(name, script::word(&names[11 * k..])) {
+            return k;
+        }
+    }
+    11
+}
+
+// Carries out a call of the desk with numbers.
+fn run_numbers(state: State, name: usize, x: Fields) -> State {
+    match name {
+        2 => run_table(state, only(x)),
+        3 => run_written(state, only(x)),
+        _ => run_parsed(state, parse(name, x)),
+    }
 }
 
 // Carries out a call of the desk.
-fn run_call(state: State, name: &[u8], args: &[u8]) -> State {
-    if check::same(name, b"table") {
-        return run_table(state, args);
+fn run_call(state: State, name: usize, args: &[u8]) -> State {
+    match name {
+        0 => run_bytes(state, Request1::Load, args),
+        1 => run_bytes(state, Request1::Propose, args),
+        _ => run_numbers(state, name, fields_in(args)),
     }
-    if check::same(name, b"load") {
-        return run_bytes(state, Request1::Load, args);
-    }
-    if check::same(name, b"change") {
-        return run_change(state, args);
-    }
-    if check::same(name, b"add") {
-        return run_add(state, args);
-    }
-    if check::same(name, b"propose") {
-        return run_bytes(state, Request1::Propose, args);
-    }
-    if check::same(name, b"share") {
-        return run_share(state, args);
-    }
-    if check::same(name, b"depot") {
-        return run_depot(state, args);
-    }
-    if check::same(name, b"difference") {
-        return run_difference(state, args);
-    }
-    if check::same(name, b"written") {
-        return run_written(state, args);
-    }
-    bad();
-    state
 }
 
 // Carries out a line that does not begin with a space.
@@ -463,17 +544,14 @@ fn run_line(state: State, line: &[u8]) -> State {
     if line[0] == b'#' {
         return state;
     }
-    let name = script::word(line);
+    let name = place(script::word(line));
     let args = script::rest(line);
-    if check::same(name, b"check") {
-        run_check(args);
-        return state;
+    match name {
+        9 => run_check(args),
+        10 => run_make(args),
+        _ => return run_call(state, name, args),
     }
-    if check::same(name, b"make") {
-        run_make(args);
-        return state;
-    }
-    run_call(state, name, args)
+    state
 }
 
 // Carries out the line that is read, and begins the next.

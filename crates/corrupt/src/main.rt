@@ -1,32 +1,14 @@
 // Desks and tables that no history leaves behind, put to the desk's entry. Where row 0 applies, every call but load is refused by it, and the desk, the table and the
 // buffer come back as they were; load works. Where only rows 15 or 16 would refuse the held plan, or the content lies beyond what is held, the desk answers from what it holds.
-use libc::STDOUT_FILENO;
+use edition1::OutOn1;
+use edition1::Request1;
+use edition1::Store1;
+use edition1::call_on1;
+use edition1::fresh1;
 use store::Answer;
-use store::Request1;
-use store::Store1;
-use store::edition1::call_on1;
-use store::edition1::fresh1;
 use table::Site1;
-
-// What came out so far: how many answers there were, and how many of them were right.
-struct Tally {
-    asked: u64,
-    right: u64,
-}
-
-fn tallied(t: Tally, ok: bool) -> Tally {
-    let asked = std::num::wrapping_add_u64(t.asked, 1);
-    if ok {
-        return Tally {
-            asked,
-            right: std::num::wrapping_add_u64(t.right, 1),
-        };
-    }
-    Tally {
-        asked,
-        right: t.right,
-    }
-}
+use tally::Tally;
+use tally::tallied;
 
 struct Desk {
     store: Store1,
@@ -77,18 +59,13 @@ fn planned(d: Desk, grouped: usize, g: u64, h: u64, s: u32, u: u32) -> Desk {
     }
 }
 
-fn same_groups(a: [u64; 64], b: [u64; 64]) -> bool {
-    for k in 0..64 {
-        if a[k] != b[k] {
+// Are groups and shares the same?
+fn same_plan(a: Store1, b: Store1) -> bool {
+    for k in 0..512 {
+        if k < 64 && a.groups[k] != b.groups[k] {
             return false;
         }
-    }
-    true
-}
-
-fn same_shares(a: [u32; 512], b: [u32; 512]) -> bool {
-    for k in 0..512 {
-        if a[k] != b[k] {
+        if a.shares[k] != b.shares[k] {
             return false;
         }
     }
@@ -126,81 +103,112 @@ fn same_store(a: Store1, b: Store1) -> bool {
     if a.grouped != b.grouped {
         return false;
     }
-    let groups = a.groups;
-    let others = b.groups;
-    if !same_groups(groups, others) {
-        return false;
+    same_plan(a, b)
+}
+
+// An answer's name and numbers; 0 for those that it has not.
+struct Plain {
+    name: u8,
+    first: u64,
+    second: u64,
+    difference: i64,
+}
+
+fn named(name: u8, first: u64, second: u64) -> Plain {
+    Plain {
+        name,
+        first,
+        second,
+        difference: 0,
     }
-    let shares = a.shares;
-    let left = b.shares;
-    same_shares(shares, left)
+}
+
+fn plain_answer(a: Answer) -> Plain {
+    match a {
+        Answer::Refused(n) => named(0, n as u64, 0),
+        Answer::Done => named(1, 0, 0),
+        Answer::Share(s, w) => named(2, s, w),
+        Answer::Depot(w, q) => named(3, w, q),
+        Answer::Difference(d, q) => Plain {
+            name: 4,
+            first: 0,
+            second: q,
+            difference: d,
+        },
+        Answer::Length(n) => named(5, n as u64, 0),
+    }
 }
 
 fn same_answer(a: Answer, b: Answer) -> bool {
-    match a {
-        Answer::Refused(n) => match b {
-            Answer::Refused(m) => n == m,
-            _ => false,
-        },
-        Answer::Done => match b {
-            Answer::Done => true,
-            _ => false,
-        },
-        Answer::Share(s, w) => match b {
-            Answer::Share(t, v) => s == t && w == v,
-            _ => false,
-        },
-        Answer::Depot(w, q) => match b {
-            Answer::Depot(v, p) => w == v && q == p,
-            _ => false,
-        },
-        Answer::Difference(d, q) => match b {
-            Answer::Difference(e, p) => d == e && q == p,
-            _ => false,
-        },
-        Answer::Length(n) => match b {
-            Answer::Length(m) => n == m,
-            _ => false,
-        },
+    let x = plain_answer(a);
+    let y = plain_answer(b);
+    if x.name != y.name {
+        return false;
+    }
+    if x.first != y.first {
+        return false;
+    }
+    if x.second != y.second {
+        return false;
+    }
+    x.difference == y.difference
+}
+
+// What a call leaves, and whether the buffer that it was lent is as before.
+struct Left {
+    out: OutOn1,
+    blank: bool,
+}
+
+fn is_blank(buffer: [u8; 20]) -> bool {
+    let whole = [0xA5u8; 20];
+    check::same(&buffer, &whole)
+}
+
+fn called(d: Desk, request: Request1, input: &[u8]) -> Left {
+    let store = d.store;
+    let table = d.table;
+    let mut buffer = [0xA5u8; 20];
+    let out = call_on1(store, table, d.places, request, input, &mut buffer);
+    Left {
+        out,
+        blank: is_blank(buffer),
     }
 }
 
 // The call gets this answer, and the desk, the table and the buffer are as before.
 fn stays(d: Desk, request: Request1, input: &[u8], expected: Answer) -> bool {
-    let store = d.store;
-    let table = d.table;
-    let whole = [0xA5u8; 20];
-    let mut buffer = [0xA5u8; 20];
-    let out = call_on1(store, table, d.places, request, input, &mut buffer);
+    let left = called(d, request, input);
+    let out = left.out;
     let answer = out.answer;
     if !same_answer(answer, expected) {
         return false;
     }
-    let left = out.store;
-    if !same_store(store, left) {
+    let before = d.store;
+    let after = out.store;
+    if !same_store(before, after) {
         return false;
     }
-    let after = out.table;
-    if !same_table(table, after) {
+    let table = d.table;
+    let sites = out.table;
+    if !same_table(table, sites) {
         return false;
     }
-    check::same(&buffer, &whole)
+    left.blank
 }
 
 // The call is done, no plan is held then and this many sites are, and all places for groups and shares are zero.
 fn clears(d: Desk, request: Request1, input: &[u8], count: usize) -> bool {
-    let store = d.store;
-    let table = d.table;
-    let mut none = [0u8; 0];
-    let out = call_on1(store, table, d.places, request, input, &mut none);
+    let left = called(d, request, input);
+    let out = left.out;
     let answer = out.answer;
     if !same_answer(answer, Answer::Done) {
         return false;
     }
-    let left = out.store;
+    let after = out.store;
     let mut bare = fresh1();
     bare.count = count;
-    same_store(left, bare)
+    same_store(after, bare)
 }
 
 // A call with no input that changes nothing, and one that is done.
@@ -356,13 +364,9 @@ fn beside(start: Tally) -> Tally {
 }
 
 fn main() {
-    let none = Tally { asked: 0, right: 0 };
+    let none = tally::nothing();
     let lists = corrupt_sites(corrupt_counts(none));
     let plans = corrupt_own(corrupt_shares(corrupt_groups(lists)));
     let t = beside(beyond(rising(uneven(plans))));
-    io::write_all(STDOUT_FILENO, b"corrupt desks: ");
-    io::print_decimal(STDOUT_FILENO, t.right);
-    io::write_all(STDOUT_FILENO, b" of ");
-    io::print_decimal(STDOUT_FILENO, t.asked);
-    io::write_all(STDOUT_FILENO, b" right\n");
+    tally::print(b"corrupt desks", t);
 }

@@ -14,8 +14,8 @@ use ghost.Atoms.{Atoms}
 use base.Logic.{SProp}
 use denote.Ref.{RefT, now}
 use lib.IntN.{ℤ}
-use Rattle.store.specs.declared.Request1.the-variants.{Load, Change, Add, Propose, Share, Depot, Difference, Written}
-use Rattle.store.specs.Edition1.{callOf1}
+use Rattle.edition1.specs.declared.Request1.the-variants.{Load, Change, Add, Propose, Share, Depot, Difference, Written}
+use Rattle.edition1.specs.Edition1.{callOf1}
 use Rattle.desk.specs.Codes.{Did, Figures, Differs, WroteOut, FreshCode}
 use Rattle.desk.proofs.sulgheti_fresh as of-fresh
 use Rattle.desk.proofs.sulgheti_load as of-load

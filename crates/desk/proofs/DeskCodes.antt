@@ -15,7 +15,8 @@ use Rattle.records.specs.Write.{planBytes}
 use Rattle.store.specs.declared.Request.the-variants.{Written}
 use Rattle.store.specs.Calls.{Call, Reply, Told, refused, wrote, same}
 use Rattle.store.specs.Model.{missing, held}
-use Rattle.store.specs.State.{State, planHeld, corrupt, effectOf, settle, step}
+use Rattle.held_state.specs.Held.{State, planHeld, corrupt}
+use Rattle.store.specs.State.{effectOf, settle, step}
 use Rattle.lent.specs.Layout.{isSized}
 use Rattle.lent.specs.Lent.{Lent, stateIn, lent, laid, call, Called, Freshened}
 use Rattle.lent.proofs.Contracts.{laid-reply}

@@ -9,11 +9,12 @@ use lib.IntN.{pos}
 use Rattle.records.specs.Format.{edition1}
 use Rattle.records.proofs.Samples.{marked1}
 use Rattle.table.specs.Widths.{widened}
-use Rattle.store.specs.declared.Store1.{Store1}
+use Rattle.edition1.specs.declared.Store1.{Store1}
 use Rattle.store.specs.Calls.{Call, Reply}
-use Rattle.store.specs.State.{State, step}
+use Rattle.held_state.specs.Held.{State}
+use Rattle.store.specs.State.{step}
 use Rattle.store.specs.Trace.{Run, start, then, Steps, History, AllBytes, Exact}
-use Rattle.store.specs.Edition1.{view1}
+use Rattle.edition1.specs.Edition1.{view1}
 use Rattle.store.proofs.History.{exact}
 use Rattle.lent.specs.Layout.{isSized, sitesIn}
 use Rattle.lent.specs.Lent.{stateIn, call, Freshened}

@@ -8,7 +8,7 @@ use lib.IntN.{ℤ, pos, negℤ}
 use lib.ListN.{length}
 use Rattle.store.specs.Calls.{Call, Told, refused, done, shared, loaded, differ, wrote}
 use Rattle.store.specs.State.{bare, step}
-use Rattle.store.specs.Edition1.{fresh1}
+use Rattle.edition1.specs.Edition1.{fresh1}
 use Rattle.lent.specs.Layout.{storeBytes, isSized, storeIn}
 use Rattle.lent.specs.Lent.{stateIn, call}
 use Rattle.desk.specs.declared.Coded.{Coded}

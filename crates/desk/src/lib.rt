@@ -1,13 +1,13 @@
 // The static library of the desk, for Rust and C: one function for each call, over lent bytes. A store is 2,584 bytes, a table 4 bytes for each place (crate `lent`).
-use engine::length;
-use engine::refused;
+use edition1::Request1;
+use signed::length;
+use signed::refused;
 use store::Answer;
-use store::Request1;
 ghost use mathlib.Core.Path.{_≡_};
 ghost use mathlib.Core.List.{[]};
 ghost use Prim.Native.Nat.{ℕ, _<_, _^_};
 ghost use Rattle.store.specs.Calls.{told, wrote};
-ghost use Rattle.store.specs.Edition1.{callOf1};
+ghost use Rattle.edition1.specs.Edition1.{callOf1};
 ghost use Rattle.desk.specs.Codes.{rowCode, lengthCode, outcomeOf, Did, Figures, Differs, WroteOut, FreshCode};
 
 // A desk's answer as numbers: its code, two figures and a difference.

@@ -15,9 +15,9 @@ use Rattle.records.specs.declared.Wrote.the-variants as wrote
 use Rattle.records.specs.Outcome.{Outcome, refused, passed}
 use Rattle.records.specs.Format.{readList}
 use Rattle.records.specs.Write.{Written}
-use Rattle.verify.specs.declared.Verdict.{Verdict}
-use Rattle.verify.specs.declared.Verdict.the-variants.{Passes, Refused}
-use Rattle.verify.specs.Verdict.{verdict}
+use Rattle.tables.specs.declared.Verdict.{Verdict}
+use Rattle.tables.specs.declared.Verdict.the-variants.{Passes, Refused}
+use Rattle.tables.specs.Verdict.{verdict}
 use Rattle.judge.specs.Check.{checkRow}
 use Rattle.maker.specs.Make.{Made}
 use Rattle.engine.specs.Codes.{checkCode}

@@ -1,27 +1,12 @@
 // The static library for Rust and C: Check and Make, each answered by one number.
 use records::Wrote;
-use verify::Verdict;
+use signed::length;
+use signed::refused;
+use tables::Verdict;
 ghost use mathlib.Core.Path.{_≡_};
-ghost use Prim.Native.Nat.{_<_, _^_};
-ghost use lib.IntN.{pos, negℤ};
 ghost use Rattle.records.specs.Format.{edition1, readList};
 ghost use Rattle.judge.specs.Check.{checkRow};
 ghost use Rattle.engine.specs.Codes.{checkCode, MadeCode};
-
-// A length, as a signed number.
-pub fn length(n: usize) -> i64
-    requires { ⌜ n < 2 ^ 63 ⌝ }
-    ensures { λ r. ⌜ r ≡ pos n ⌝ }
-{
-    n as i64
-}
-
-// A row's number with a minus sign.
-pub fn refused(n: u8) -> i64
-    ensures { λ r. ⌜ r ≡ negℤ (pos n) ⌝ }
-{
-    0 - length(n as usize)
-}
 
 // Check: 0 where the plan passes; where a row refuses, its number with a minus sign.
 #[no_mangle]

@@ -1,28 +1,33 @@
 // Groups and plans by a plain count over all sets of depots, from document 01, "Depots, sites, groups". It shares nothing with the engine but the
 // types of a list and of a plan. For lists of at most 16 sites whose depots are below 12; `is_small` says whether a list is one.
+use density::Site;
 use records::ListArray;
 use records::PlanArray;
 
-// The sites of a list: the sets of their first and of their second depots, and their litres; all three are 0 beyond the last site.
-struct Sites {
-    first: [u64; 16],
-    second: [u64; 16],
-    litres: [u64; 16],
+// A site: the sets of its first and of its second depot, and its litres; all three are 0 beyond the last site.
+struct Entry {
+    first: u64,
+    second: u64,
+    litres: u64,
+}
+
+// A site in a plan: the place of the group that carries it, what the site is in its q-ths of a litre, and the first depot's share of that.
+struct Part {
+    site: Entry,
+    carrier: usize,
+    whole: u64,
+    share: u64,
 }
 
 // Groups in order, 0 beyond the last.
 struct Found {
     count: usize,
-    sets: [u64; 16],
+    sets: [u64; 64],
 }
 
 // The set of one depot. Depots from 12 on are all put at 12, which makes the list too large.
 fn single(depot: u8) -> u64 {
     if depot < 12 { 1 << depot } else { 4096 }
-}
-
-fn wide(x: u32) -> u64 {
-    x as u64
 }
 
 // a × b where a is below 2^40 and b below 2^16, as all litres and sizes here are.
@@ -39,30 +44,42 @@ fn sum(a: u64, b: u64) -> u64 {
     std::num::wrapping_add_u64(a, b)
 }
 
-fn read(list: ListArray) -> Sites {
-    let mut first = [0u64; 16];
-    let mut second = [0u64; 16];
-    let mut litres = [0u64; 16];
-    for i in 0..16 {
-        if i < list.count {
-            let site = list.sites[i];
-            first[i] = single(site.first);
-            second[i] = single(site.second);
-            litres[i] = wide(site.litres);
-        }
-    }
-    Sites {
-        first,
-        second,
-        litres,
+fn entered(site: Site) -> Entry {
+    Entry {
+        first: single(site.first),
+        second: single(site.second),
+        litres: site.litres as u64,
     }
 }
 
+fn no_site() -> Entry {
+    Entry {
+        first: 0,
+        second: 0,
+        litres: 0,
+    }
+}
+
+fn read(list: ListArray) -> [Entry; 16] {
+    let mut out = [no_site(); 16];
+    for i in 0..16 {
+        if i < list.count {
+            out[i] = entered(list.sites[i]);
+        }
+    }
+    out
+}
+
+// The set of a site's depots.
+fn depots(site: Entry) -> u64 {
+    site.first | site.second
+}
+
 // "A depot is listed if some site names it."
-fn listed(first: &[u64; 16], second: &[u64; 16]) -> u64 {
+fn listed(sites: [Entry; 16]) -> u64 {
     let mut set: u64 = 0;
     for i in 0..16 {
-        set = set | first[i] | second[i];
+        set = set | depots(sites[i]);
     }
     set
 }
@@ -71,34 +88,28 @@ fn listed(first: &[u64; 16], second: &[u64; 16]) -> u64 {
 fn size(set: u64) -> u64 {
     let mut n: u64 = 0;
     for d in 0..12u8 {
-        if (set >> d) & 1 == 1 {
-            n = sum(n, 1);
-        }
+        n = sum(n, (set >> d) & 1);
     }
     n
 }
 
-// "sites that touch the set and whose depots all lie in the set or among the grouped ones"
-fn counts(first: u64, second: u64, set: u64, grouped: u64) -> bool {
-    if (first | second) & set == 0 {
-        return false;
+// The litres of one site in a set's: "sites that touch the set and whose depots all lie in the set or among the grouped ones"
+fn counted(site: Entry, set: u64, grouped: u64) -> u64 {
+    let both = depots(site);
+    if both & set == 0 {
+        return 0;
     }
-    (first | second) & !(set | grouped) == 0
+    if both & !(set | grouped) == 0 {
+        return site.litres;
+    }
+    0
 }
 
 // "The litres of a set, given the depots already grouped". "A site counts once."
-fn litres_of(
-    first: &[u64; 16],
-    second: &[u64; 16],
-    litres: &[u64; 16],
-    set: u64,
-    grouped: u64,
-) -> u64 {
+fn litres_of(sites: [Entry; 16], set: u64, grouped: u64) -> u64 {
     let mut w: u64 = 0;
     for i in 0..16 {
-        if counts(first[i], second[i], set, grouped) {
-            w = sum(w, litres[i]);
-        }
+        w = sum(w, counted(sites[i], set, grouped));
     }
     w
 }
@@ -114,14 +125,9 @@ fn exceeds(w: u64, n: u64, v: u64, m: u64) -> bool {
 }
 
 // "The next group is, among the non-empty sets of listed depots not yet grouped, the one with the most litres per depot. Of several such sets it is the
-// largest." Those sets are the numbers from 1 to the set `free` of such depots that have no depot outside it.
-fn next_group(
-    first: &[u64; 16],
-    second: &[u64; 16],
-    litres: &[u64; 16],
-    free: u64,
-    grouped: u64,
-) -> u64 {
+// largest." Those sets are the numbers from 1 to the set `free` of such depots that have no depot outside it. It starts from no litres for no depots,
+// which any of them exceeds or equals with more depots.
+fn next_group(sites: [Entry; 16], free: u64, grouped: u64) -> u64 {
     let mut best: u64 = 0;
     let mut most: u64 = 0;
     let mut many: u64 = 0;
@@ -131,9 +137,9 @@ fn next_group(
     let mut x: u64 = 1;
     while x <= free {
         if x & !free == 0 {
-            let w = litres_of(first, second, litres, x, grouped);
+            let w = litres_of(sites, x, grouped);
             let n = size(x);
-            if best == 0 || exceeds(w, n, most, many) {
+            if exceeds(w, n, most, many) {
                 best = x;
                 most = w;
                 many = n;
@@ -145,17 +151,17 @@ fn next_group(
 }
 
 // "Groups follow until every listed depot is in one."
-fn all_groups(first: &[u64; 16], second: &[u64; 16], litres: &[u64; 16]) -> Found {
-    let mut sets = [0u64; 16];
+fn all_groups(sites: [Entry; 16]) -> Found {
+    let mut sets = [0u64; 64];
     let mut count: usize = 0;
+    let mut free = listed(sites);
     let mut grouped: u64 = 0;
-    let all = listed(first, second);
     for k in 0..16 {
-        let free = all & !grouped;
         if free != 0 {
-            let set = next_group(first, second, litres, free, grouped);
+            let set = next_group(sites, free, grouped);
             sets[k] = set;
             grouped = grouped | set;
+            free = free & !set;
             count = k + 1;
         }
     }
@@ -163,7 +169,7 @@ fn all_groups(first: &[u64; 16], second: &[u64; 16], litres: &[u64; 16]) -> Foun
 }
 
 // The place of the group that has the depot, 16 where none has. A depot is given by its set.
-fn place(sets: &[u64; 16], depot: u64) -> usize {
+fn place(sets: [u64; 64], depot: u64) -> usize {
     for k in 0..16 {
         if sets[k] & depot != 0 {
             return k;
@@ -172,131 +178,117 @@ fn place(sets: &[u64; 16], depot: u64) -> usize {
     16
 }
 
-fn later(a: usize, b: usize) -> usize {
+// "A site is carried by the later of its depots' groups."
+fn carrier(sets: [u64; 64], site: Entry) -> usize {
+    let a = place(sets, site.first);
+    let b = place(sets, site.second);
     if a < b { b } else { a }
 }
 
-// "A site is carried by the later of its depots' groups."
-fn carriers(sets: &[u64; 16], first: &[u64; 16], second: &[u64; 16]) -> [usize; 16] {
-    let mut out = [16usize; 16];
-    for i in 0..16 {
-        out[i] = later(place(sets, first[i]), place(sets, second[i]));
-    }
-    out
-}
-
-fn group_size(sets: &[u64; 16], k: usize) -> u64 {
-    if k < 16 { size(sets[k]) } else { 0 }
-}
-
 // "A site of w litres is w × q", q being the size of the group that carries it.
-fn wholes(sets: &[u64; 16], carrier: &[usize; 16], litres: &[u64; 16]) -> [u64; 16] {
-    let mut out = [0u64; 16];
-    for i in 0..16 {
-        out[i] = product(litres[i], group_size(sets, carrier[i]));
+fn carried_part(sets: [u64; 64], site: Entry, share: u64) -> Part {
+    let k = carrier(sets, site);
+    let q = if k < 16 { size(sets[k]) } else { 0 };
+    Part {
+        site,
+        carrier: k,
+        whole: product(site.litres, q),
+        share,
     }
-    out
 }
 
-// "W the litres of all sites it carries", of group k.
-fn carried(carrier: &[usize; 16], litres: &[u64; 16], k: usize) -> u64 {
-    let mut w: u64 = 0;
+// The parts of so many sites, and 0 beyond the last.
+fn parts(sites: [Entry; 16], count: usize, sets: [u64; 64], plan: PlanArray) -> [Part; 16] {
+    let none = Part {
+        site: no_site(),
+        carrier: 16,
+        whole: 0,
+        share: 0,
+    };
+    let mut out = [none; 16];
     for i in 0..16 {
-        if carrier[i] == k {
-            w = sum(w, litres[i]);
+        if i < count {
+            out[i] = carried_part(sets, sites[i], plan.shares[i]);
         }
     }
-    w
+    out
 }
 
-// "the first depot has s of it, the second the rest. An own site has s = w × q. A depot in an earlier group than the carrying one has 0."
-fn keeps(s: u64, whole: u64, own: bool, first_earlier: bool, second_earlier: bool) -> bool {
-    if whole < s {
-        return false;
-    }
-    if own && s != whole {
-        return false;
-    }
-    if first_earlier && s != 0 {
-        return false;
-    }
-    if second_earlier && whole - s != 0 {
-        return false;
+// "A depot in an earlier group than the carrying one has 0."
+fn is_allowed(sets: [u64; 64], depot: u64, carrier: usize, has: u64) -> bool {
+    if place(sets, depot) < carrier {
+        return has == 0;
     }
     true
 }
 
-fn all_keep(
-    sets: &[u64; 16],
-    first: &[u64; 16],
-    second: &[u64; 16],
-    carrier: &[usize; 16],
-    whole: &[u64; 16],
-    shares: &[u64; 16],
-) -> bool {
+// "the first depot has s of it, the second the rest. An own site has s = w × q." Its depot's group carries it.
+fn keeps(sets: [u64; 64], x: Part) -> bool {
+    if x.whole < x.share {
+        return false;
+    }
+    let rest = x.whole - x.share;
+    if x.site.first == x.site.second {
+        return rest == 0;
+    }
+    if is_allowed(sets, x.site.first, x.carrier, x.share) {
+        return is_allowed(sets, x.site.second, x.carrier, rest);
+    }
+    false
+}
+
+fn all_keep(parts: [Part; 16], sets: [u64; 64]) -> bool {
     for i in 0..16 {
-        let own = first[i] == second[i];
-        let first_earlier = place(sets, first[i]) < carrier[i];
-        let second_earlier = place(sets, second[i]) < carrier[i];
-        if !keeps(shares[i], whole[i], own, first_earlier, second_earlier) {
+        if !keeps(sets, parts[i]) {
             return false;
         }
     }
     true
 }
 
-// What a depot has of a site.
-fn share_of(first: u64, second: u64, s: u64, whole: u64, depot: u64) -> u64 {
+// What a depot has of a site that group k carries; of another site 0.
+fn share_of(x: Part, k: usize, depot: u64) -> u64 {
     let mut has: u64 = 0;
-    if first == depot {
-        has = sum(has, s);
+    if x.carrier != k {
+        return has;
     }
-    if second == depot {
-        has = sum(has, std::num::wrapping_sub_u64(whole, s));
+    if x.site.first == depot {
+        has = x.share;
+    }
+    if x.site.second == depot {
+        has = sum(has, std::num::wrapping_sub_u64(x.whole, x.share));
     }
     has
 }
 
 // "the shares it has from sites carried by its own group", that is group k, added up
-fn load(
-    first: &[u64; 16],
-    second: &[u64; 16],
-    carrier: &[usize; 16],
-    whole: &[u64; 16],
-    shares: &[u64; 16],
-    k: usize,
-    depot: u64,
-) -> u64 {
+fn load(parts: [Part; 16], k: usize, depot: u64) -> u64 {
     let mut all: u64 = 0;
     for i in 0..16 {
-        if carrier[i] == k {
-            all = sum(
-                all,
-                share_of(first[i], second[i], shares[i], whole[i], depot),
-            );
-        }
+        all = sum(all, share_of(parts[i], k, depot));
     }
     all
 }
 
-// "A plan is level if for each depot the shares it has from sites carried by its own group add up to W."
-fn is_level(
-    sets: &[u64; 16],
-    first: &[u64; 16],
-    second: &[u64; 16],
-    litres: &[u64; 16],
-    carrier: &[usize; 16],
-    whole: &[u64; 16],
-    shares: &[u64; 16],
-) -> bool {
-    let all = listed(first, second);
+// "W the litres of all sites it carries", of group k.
+fn carried(parts: [Part; 16], k: usize) -> u64 {
+    let mut w: u64 = 0;
+    for i in 0..16 {
+        let x = parts[i];
+        if x.carrier == k {
+            w = sum(w, x.site.litres);
+        }
+    }
+    w
+}
+
+// "A plan is level if for each depot the shares it has from sites carried by its own group add up to W." A depot in no group is not listed.
+fn is_level(parts: [Part; 16], sets: [u64; 64]) -> bool {
     for d in 0..12u8 {
         let depot = single(d);
-        if all & depot != 0 {
-            let k = place(sets, depot);
-            if load(first, second, carrier, whole, shares, k, depot)
-                != carried(carrier, litres, k)
-            {
+        let k = place(sets, depot);
+        if k < 16 {
+            if load(parts, k, depot) != carried(parts, k) {
                 return false;
             }
         }
@@ -304,23 +296,13 @@ fn is_level(
     true
 }
 
-fn same_groups(plan: PlanArray, sets: &[u64; 16]) -> bool {
+fn same_groups(plan: PlanArray, found: Found) -> bool {
     for k in 0..16 {
-        if k < plan.count && plan.groups[k] != sets[k] {
+        if k < plan.count && plan.groups[k] != found.sets[k] {
             return false;
         }
     }
-    true
-}
-
-fn shares_of(plan: PlanArray, count: usize) -> [u64; 16] {
-    let mut out = [0u64; 16];
-    for i in 0..16 {
-        if i < count {
-            out[i] = plan.shares[i];
-        }
-    }
-    out
+    plan.count == found.count
 }
 
 // Has the list at most 16 sites, and are its depots below 12? Where not, the other functions count nothing.
@@ -328,30 +310,19 @@ pub fn is_small(list: ListArray) -> bool {
     if 16 < list.count {
         return false;
     }
-    let sites = read(list);
-    let first = sites.first;
-    let second = sites.second;
-    listed(&first, &second) < 4096
+    listed(read(list)) < 4096
 }
 
 // The groups of a small list, with all shares 0. For other lists no groups.
 pub fn groups(list: ListArray) -> PlanArray {
-    let mut groups = [0u64; 64];
-    if !is_small(list) {
-        return PlanArray {
-            count: 0,
-            groups,
-            shares: [0; 512],
-        };
+    let mut found = Found {
+        count: 0,
+        sets: [0; 64],
+    };
+    if is_small(list) {
+        found = all_groups(read(list));
     }
-    let sites = read(list);
-    let first = sites.first;
-    let second = sites.second;
-    let litres = sites.litres;
-    let found = all_groups(&first, &second, &litres);
-    for k in 0..16 {
-        groups[k] = found.sets[k];
-    }
+    let groups = found.sets;
     PlanArray {
         count: found.count,
         groups,
@@ -365,22 +336,14 @@ pub fn is_true(list: ListArray, plan: PlanArray) -> bool {
         return false;
     }
     let sites = read(list);
-    let first = sites.first;
-    let second = sites.second;
-    let litres = sites.litres;
-    let found = all_groups(&first, &second, &litres);
+    let found = all_groups(sites);
+    if !same_groups(plan, found) {
+        return false;
+    }
     let sets = found.sets;
-    if plan.count != found.count {
-        return false;
+    let shared = parts(sites, list.count, sets, plan);
+    if all_keep(shared, sets) {
+        return is_level(shared, sets);
     }
-    if !same_groups(plan, &sets) {
-        return false;
-    }
-    let carrier = carriers(&sets, &first, &second);
-    let whole = wholes(&sets, &carrier, &litres);
-    let shares = shares_of(plan, list.count);
-    if !all_keep(&sets, &first, &second, &carrier, &whole, &shares) {
-        return false;
-    }
-    is_level(&sets, &first, &second, &litres, &carrier, &whole, &shares)
+    false
 }

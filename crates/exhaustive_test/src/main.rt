@@ -1,7 +1,6 @@
 // Document 01's lists with known plans, counted over all sets.
 use exhaustive::groups;
 use exhaustive::is_true;
-use libc::STDOUT_FILENO;
 use networks::no_groups;
 use networks::no_sites;
 use networks::with_group;
@@ -9,26 +8,8 @@ use networks::with_share;
 use networks::with_site;
 use records::ListArray;
 use records::PlanArray;
-
-// What came out so far: how many answers there were, and how many of them were right.
-struct Tally {
-    asked: u64,
-    right: u64,
-}
-
-fn tallied(t: Tally, ok: bool) -> Tally {
-    let asked = std::num::wrapping_add_u64(t.asked, 1);
-    if ok {
-        return Tally {
-            asked,
-            right: std::num::wrapping_add_u64(t.right, 1),
-        };
-    }
-    Tally {
-        asked,
-        right: t.right,
-    }
-}
+use tally::Tally;
+use tally::tallied;
 
 fn one_site(a: u8, b: u8, w: u32) -> ListArray {
     with_site(no_sites(), a, b, w)
@@ -100,11 +81,15 @@ fn starred(start: Tally) -> Tally {
         two_sites(0, 0, 4, 1, 1, 3),
         shares(two_groups(1, 2), 4, 3),
     );
-    t = known(
+    known(
         t,
         two_sites(0, 0, 7, 0, 1, 6),
         shares(two_groups(1, 2), 7, 0),
-    );
+    )
+}
+
+fn starred_others(start: Tally) -> Tally {
+    let mut t = start;
     t = known(t, two_sites(0, 0, 6, 0, 1, 6), shares(one_group(3), 12, 0));
     t = known(t, two_sites(0, 0, 5, 0, 1, 6), shares(one_group(3), 10, 1));
     t = known(
@@ -124,7 +109,11 @@ fn false_plans(start: Tally) -> Tally {
     t = untrue(t, one, with_share(one_group(3), 0, 21));
     t = untrue(t, one, with_share(one_group(3), 0, 11));
     t = untrue(t, one, with_share(two_groups(3, 0), 0, 10));
-    t = untrue(t, one, with_share(one_group(7), 0, 10));
+    untrue(t, one, with_share(one_group(7), 0, 10))
+}
+
+fn false_others(start: Tally) -> Tally {
+    let mut t = start;
     t = untrue(
         t,
         two_sites(0, 0, 4, 1, 1, 4),
@@ -147,13 +136,9 @@ fn false_plans(start: Tally) -> Tally {
 }
 
 fn main() {
-    let mut t = Tally { asked: 0, right: 0 };
-    t = starred(t);
+    let mut t = tally::nothing();
+    t = starred_others(starred(t));
     t = tallied(t, same_groups(nine_sites(), two_groups(31, 32)));
-    t = false_plans(t);
-    io::write_all(STDOUT_FILENO, b"known plans: ");
-    io::print_decimal(STDOUT_FILENO, t.right);
-    io::write_all(STDOUT_FILENO, b" of ");
-    io::print_decimal(STDOUT_FILENO, t.asked);
-    io::write_all(STDOUT_FILENO, b" right\n");
+    t = false_others(false_plans(t));
+    tally::print(b"known plans", t);
 }

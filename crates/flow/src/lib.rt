@@ -1,154 +1,11 @@
 // Moves share between the depots of a set, along residual arcs, until no depot above its target can pass share on to one below.
-// A site i has two arcs: i at its first depot and i + 512 at its second.
-// ends[j] is the depot of arc j, or 64 where there is no site; share[j] is what that depot has of the site.
-// rank[d] is the place of depot d in the search order, 64 where it is not reached, 65 where it takes no part.
+// The arrays are those of residual.
 ghost use mathlib.Core.Path.{_≡_};
-ghost use Prim.Native.Nat.{_-_, _<_, min, max};
+ghost use Prim.Native.Nat.{_-_, _<_, max};
 ghost use lib.ListN.{length};
-ghost use Rattle.flow.specs.Rounds.{Excess, Depots, Tested, Found, AllDischarged, Cleared, Seeded, Start, Relaxed};
-ghost use Rattle.flow.specs.Moves.{shift, Room, Loaded, Movable, Pushed, Ranked, ArcAt, ExcessPushed, Discharged};
-ghost use Rattle.flow.specs.Search.{reverse, Queue, Enqueued, Residual, Placed, Scanned, Reached, Linked, Linking, Prepended};
-
-// The arc of the same site at its other depot.
-fn reverse(j: usize) -> usize
-    requires { ⌜ j < 1024 ⌝ }
-    ensures { λ r. ⌜ (r ≡ reverse j) × (r < 1024) ⌝ }
-{
-    if j < 512 {
-        return j + 512;
-    }
-    j - 512
-}
-
-// Puts u at the end of the search order, if it has something to give, takes part and is not reached yet.
-fn enqueue(give: u64, u: usize, n: usize, order: &mut [usize], rank: &mut [usize]) -> usize
-    requires { ⌜ u < 64 ⌝ }
-    requires { ⌜ Queue n (now order) (now rank) ⌝ }
-    ensures { λ r. ⌜ Enqueued give u n (now (order .entry)) (now (rank .entry)) r (now (order .exit)) (now (rank .exit)) ⌝ }
-{
-    if give == 0 {
-        return n;
-    }
-    let place = rank[u];
-    if place == 64 {
-        rank[u] = n;
-        order[n] = u;
-        return n + 1;
-    }
-    n
-}
-
-// Enqueues the depot at the other end of each arc at v, where that depot has share on it.
-fn scan(
-    ends: &[usize],
-    chain: &[usize],
-    share: &[u64],
-    v: usize,
-    start: usize,
-    order: &mut [usize],
-    rank: &mut [usize],
-) -> usize
-    requires { ⌜ Residual (now ends) (now chain) (now share) ⌝ }
-    requires { ⌜ Placed (now rank) v ⌝ }
-    requires { ⌜ Queue start (now order) (now rank) ⌝ }
-    ensures { λ r. ⌜ Scanned (now (ends .entry)) (now (share .entry)) v start (now (order .entry)) (now (rank .entry)) r (now (order .exit)) (now (rank .exit)) ⌝ }
-{
-    let mut n = start;
-    let mut j = chain[1024 + v];
-    while 0 < j {
-        let p = reverse(j - 1);
-        n = enqueue(share[p], ends[p], n, order, rank);
-        j = chain[j - 1];
-    }
-    n
-}
-
-// All depots that can pass share on, arc by arc, to one of the first `start` of the order.
-fn reach(
-    ends: &[usize],
-    chain: &[usize],
-    share: &[u64],
-    start: usize,
-    order: &mut [usize],
-    rank: &mut [usize],
-) -> usize
-    requires { ⌜ Residual (now ends) (now chain) (now share) ⌝ }
-    requires { ⌜ Queue start (now order) (now rank) ⌝ }
-    ensures { λ r. ⌜ Reached (now (ends .entry)) (now (share .entry)) start (now (order .entry)) (now (rank .entry)) r (now (order .exit)) (now (rank .exit)) ⌝ }
-{
-    let mut n = start;
-    let mut k: usize = 0;
-    while k < n {
-        let v = order[k];
-        n = scan(ends, chain, share, v, n, order, rank);
-        k += 1;
-    }
-    n
-}
-
-// Moves m from place i to place k.
-fn transfer(xs: &mut [u64], i: usize, k: usize, m: u64)
-    requires { ⌜ Room (now xs) i k m ⌝ }
-    ensures { λ _. ⌜ now (xs .exit) ≡ shift (now (xs .entry)) i k m ⌝ }
-{
-    xs[i] = xs[i] - m;
-    xs[k] = xs[k] + m;
-}
-
-// Moves m of the share on arc j to its reverse.
-fn push(ends: &[usize], share: &mut [u64], load: &mut [u64], j: usize, m: u64)
-    requires { ⌜ Loaded (now ends) (now share) (now load) ⌝ }
-    requires { ⌜ Movable (now ends) (now share) (now load) j m ⌝ }
-    ensures { λ _. ⌜ Pushed (now (ends .entry)) (now (share .entry)) (now (load .entry)) j m (now (share .exit)) (now (load .exit)) ⌝ }
-{
-    let p = reverse(j);
-    let u = ends[j];
-    let v = ends[p];
-    transfer(share, j, p, m);
-    transfer(load, u, v, m);
-}
-
-fn least(a: u64, b: u64) -> u64
-    ensures { λ r. ⌜ r ≡ min a b ⌝ }
-{
-    if a < b {
-        return a;
-    }
-    b
-}
-
-// Moves what u has above its target along its arc j, as far as the share goes, if the other depot comes earlier.
-fn push_excess(
-    ends: &[usize],
-    rank: &[usize],
-    target: &[u64],
-    u: usize,
-    j: usize,
-    share: &mut [u64],
-    load: &mut [u64],
-)
-    requires { ⌜ ArcAt (now ends) (now rank) (now target) u j ⌝ }
-    requires { ⌜ Loaded (now ends) (now share) (now load) ⌝ }
-    ensures { λ _. ⌜ ExcessPushed (now (ends .entry)) (now (rank .entry)) (now (target .entry)) u j (now (share .entry)) (now (load .entry)) (now (share .exit)) (now (load .exit)) ⌝ }
-{
-    let v = ends[reverse(j)];
-    let here = rank[u];
-    let there = rank[v];
-    if here <= there {
-        return;
-    }
-    let have = load[u];
-    let goal = target[u];
-    if have <= goal {
-        return;
-    }
-    let give = share[j];
-    if give == 0 {
-        return;
-    }
-    let m = least(have - goal, give);
-    push(ends, share, load, j, m);
-}
+ghost use Rattle.residual.specs.Rounds.{Excess, Depots, Tested, Found, AllDischarged, Cleared, Seeded, Start, Relaxed};
+ghost use Rattle.residual.specs.Moves.{Loaded, Ranked, Discharged};
+ghost use Rattle.residual.specs.Search.{Queue, Placed, Linked, Linking, Prepended};
 
 // Pushes the excess of u along each of its arcs.
 fn discharge(
@@ -167,7 +24,7 @@ fn discharge(
 {
     let mut j = chain[1024 + u];
     while 0 < j {
-        push_excess(ends, rank, target, u, j - 1, share, load);
+        push::push_excess(ends, rank, target, u, j - 1, share, load);
         j = chain[j - 1];
     }
 }
@@ -257,7 +114,7 @@ fn seeds(target: &[u64], load: &[u64], order: &mut [usize], rank: &mut [usize]) 
     let mut n: usize = 0;
     let mut d: usize = 0;
     while d < 64 {
-        n = enqueue(deficit(load[d], target[d]), d, n, order, rank);
+        n = residual::enqueue(deficit(load[d], target[d]), d, n, order, rank);
         d += 1;
     }
     n
@@ -280,7 +137,7 @@ pub fn relax(
     loop {
         clear(rank);
         let start = seeds(target, load, order, rank);
-        let n = reach(ends, chain, share, start, order, rank);
+        let n = residual::reach(ends, chain, share, start, order, rank);
         let more = any_excess(order, n, target, load);
         if !more {
             return n;

@@ -19,9 +19,9 @@ use Rattle.records.specs.Format.{groupCount, shareSize, readList, readPlan}
 use Rattle.records.proofs.Records.{length-records}
 use Rattle.records.proofs.RoundTrip.{list-few, list-depots, plan-read}
 use Rattle.records.proofs.Answers.{list-counted, list-refused, plan-counted, plan-refused, listing-array, plan-array}
-use Rattle.verify.specs.declared.Verdict.{Verdict}
-use Rattle.verify.specs.Verdict.{verdict}
-use Rattle.verify.specs.Tables.{net, groupsIn, sharesIn, Counted}
+use Rattle.tables.specs.declared.Verdict.{Verdict}
+use Rattle.tables.specs.Verdict.{verdict}
+use Rattle.tables.specs.Tables.{net, groupsIn, sharesIn, Counted}
 use Rattle.judge.specs.Check.{refusal, checkRow}
 
 pub refusal-settle : (o : Option ℕ) (p : Plan) → refusal (settle o p) ≡ o

@@ -14,8 +14,8 @@ use Rattle.records.specs.Values.{Plan}
 use Rattle.records.specs.Outcome.{Outcome, refused, passed, gate, bind}
 use Rattle.records.specs.Format.{readList, readPlan}
 use Rattle.records.specs.Write.{LaidOut}
-use Rattle.verify.specs.declared.Verdict.{Verdict}
-use Rattle.verify.specs.declared.Verdict.the-variants.{Passes, Refused}
+use Rattle.tables.specs.declared.Verdict.{Verdict}
+use Rattle.tables.specs.declared.Verdict.the-variants.{Passes, Refused}
 
 -- "Check: a list and a plan; passes or refuses. When the list is refused, the plan is not read": rows 1 to 6 of the list, then rows 7 to 16 of the
 -- plan for it

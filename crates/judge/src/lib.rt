@@ -1,11 +1,11 @@
 // Check: a plan, as bytes, judged against a list.
 use records::Edition;
 use records::Read;
-use verify::Verdict;
+use tables::Verdict;
 ghost use mathlib.Core.Path.{_≡_};
 ghost use Prim.Native.Nat.{_≤_};
 ghost use Rattle.records.specs.Format.{edition1};
-ghost use Rattle.verify.specs.Verdict.{verdict};
+ghost use Rattle.tables.specs.Verdict.{verdict};
 ghost use Rattle.judge.specs.Check.{checkRow, handedOn};
 
 // A reader's refusal, handed on.
@@ -23,12 +23,12 @@ pub fn check_by(e: Edition, list: &[u8], plan: &[u8]) -> Verdict
     requires { ⌜ (e .litres ≤ 4) × (e .share ≤ 8) ⌝ }
     ensures { λ r. ⌜ r ≡ verdict (checkRow e (now (list .entry)) (now (plan .entry))) ⌝ }
 {
-    let l = records::list::read(e, 512, list);
+    let l = readers::list::read(e, 512, list);
     let listed = l.answer;
     let Read::Count(n) = listed else {
         return handed_on(listed);
     };
-    let p = records::plan::read(e, n, plan);
+    let p = readers::plan::read(e, n, plan);
     let laid = p.answer;
     let Read::Count(_) = laid else {
         return handed_on(laid);

@@ -21,13 +21,14 @@ use Rattle.records.specs.Format.{edition1}
 use Rattle.records.proofs.Samples.{marked1}
 use Rattle.table.specs.Widths.{widened}
 use Rattle.store.specs.declared.Answer.{Answer}
-use Rattle.store.specs.declared.Request1.{Request1}
+use Rattle.edition1.specs.declared.Request1.{Request1}
 use Rattle.store.specs.Calls.{Call, Reply, Told, told}
-use Rattle.store.specs.State.{State, Done, bare, step}
+use Rattle.held_state.specs.Held.{State}
+use Rattle.store.specs.State.{Done, bare, step}
 use Rattle.store.specs.Trace.{Run, start, then, Steps, History, AllBytes, Exact}
-use Rattle.store.specs.Edition1.{view1, callOf1, fresh1}
+use Rattle.edition1.specs.Edition1.{view1, callOf1, fresh1}
 use Rattle.store.proofs.History.{exact}
-use Rattle.store.proofs.Contracts.{Passed1, passed}
+use Rattle.edition1.proofs.Contracts.{Passed1, passed}
 use Rattle.lent.specs.Layout.{storeBytes, isSized, sitesIn, tableOver}
 use Rattle.lent.specs.Lent.{Lent, stateIn, isRefused, lent, laid, Called, Freshened}
 use Rattle.lent.proofs.RoundTrip.{length-store}

@@ -21,8 +21,8 @@ use Rattle.table.specs.declared.Site1.{Site1}
 use Rattle.table.specs.Table.{overlay}
 use Rattle.table.specs.Widths.{noSite1, widened}
 use Rattle.table.proofs.Overlay.{map-take, map-drop}
-use Rattle.store.specs.declared.Store1.{Store1}
-use Rattle.store.specs.Edition1.{storeOf1}
+use Rattle.edition1.specs.declared.Store1.{Store1}
+use Rattle.edition1.specs.Edition1.{storeOf1}
 use Rattle.lent.specs.Layout.{storeBytes, numbers, storeAt, noStore, isSized, storeIn, placeBytes, placeIn, sitesIn, tableOver, PutStore}
 
 -- ---- numbers, one after another

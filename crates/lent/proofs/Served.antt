@@ -14,15 +14,16 @@ use Rattle.table.specs.declared.Site1.{Site1}
 use Rattle.table.specs.Table.{overlay, heldOf}
 use Rattle.table.specs.Widths.{noSite1, widened}
 use Rattle.table.proofs.Overlay.{overlay-none}
-use Rattle.store.specs.declared.Store1.{Store1}
+use Rattle.edition1.specs.declared.Store1.{Store1}
 use Rattle.store.specs.declared.Request.{Request}
 use Rattle.store.specs.declared.Request.the-variants.{Load, Change, Add, Propose, Share, Depot, Difference, Written}
-use Rattle.store.specs.declared.Request1.{Request1}
-use Rattle.store.specs.declared.Decision1.{Decision1}
+use Rattle.edition1.specs.declared.Request1.{Request1}
+use Rattle.edition1.specs.declared.Decision1.{Decision1}
 use Rattle.store.specs.Calls.{Call, Told, told, refused}
-use Rattle.store.specs.State.{State, Done, corrupt, triesZero, effectOf, refusal, settle, step}
+use Rattle.held_state.specs.Held.{State, corrupt}
+use Rattle.store.specs.State.{Done, triesZero, effectOf, refusal, settle, step}
 use Rattle.store.specs.Trace.{Question}
-use Rattle.store.specs.Edition1.{storeOf1, view1, callOf1, fresh1, turned1, Served1}
+use Rattle.edition1.specs.Edition1.{storeOf1, view1, callOf1, fresh1, turned1, Served1}
 use Rattle.lent.specs.Layout.{storeBytes, noStore, isSized, storeIn, sitesIn, tableOver, PutStore, PutSites}
 use Rattle.lent.specs.Lent.{stateIn, Lent, isRefused, lent, laid, Called, Freshened}
 use Rattle.lent.specs.Lent as spec

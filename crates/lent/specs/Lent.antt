@@ -5,8 +5,9 @@ use mathlib.Core.List.{List}
 use Prim.Native.Nat.{ℕ}
 use lib.ListN.{length}
 use Rattle.store.specs.Calls.{Call, Reply, Told, refused, done, shared, loaded, differ, wrote, same}
-use Rattle.store.specs.State.{State, Done, bare, step}
-use Rattle.store.specs.Edition1.{view1, fresh1}
+use Rattle.held_state.specs.Held.{State}
+use Rattle.store.specs.State.{Done, bare, step}
+use Rattle.edition1.specs.Edition1.{view1, fresh1}
 use Rattle.lent.specs.Layout.{storeBytes, isSized, storeIn, sitesIn, tableOver}
 
 -- the state that the bytes of a store and of a table stand for

@@ -1,13 +1,13 @@
 // The desk (store) and its table laid in bytes that the caller lends.
+use edition1::Request1;
+use edition1::Store1;
+use edition1::fresh1;
+use edition1::serve1;
 use records::number::field;
-use records::write::number_at;
 use store::Answer;
-use store::Request1;
-use store::Store1;
-use store::edition1::fresh1;
-use store::edition1::serve1;
 use table::Site1;
 use table::capacity;
+use writers::number_at;
 ghost use mathlib.Core.Path.{_≡_};
 ghost use mathlib.Core.Bool.{cond};
 ghost use mathlib.Core.List.{[], flatMap};
@@ -18,7 +18,7 @@ ghost use Rattle.records.specs.Write.{place, onto};
 ghost use Rattle.table.specs.Table.{heldOf};
 ghost use Rattle.table.specs.Widths.{noSite1, widened};
 ghost use Rattle.store.specs.Calls.{told};
-ghost use Rattle.store.specs.Edition1.{callOf1};
+ghost use Rattle.edition1.specs.Edition1.{callOf1};
 ghost use Rattle.lent.specs.Layout.{noStore, numbers, storeIn, placeBytes, placeIn, sitesIn, PutStore, PutSites};
 ghost use Rattle.lent.specs.Lent.{isRefused, Freshened, Called};
 

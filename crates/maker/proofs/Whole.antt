@@ -20,13 +20,13 @@ use Rattle.density.proofs.Level.{end}
 use Rattle.density.proofs.Lists.{valid}
 use Rattle.records.specs.Values.{listing}
 use Rattle.records.specs.declared.ListArray.{ListArray}
-use Rattle.flow.specs.Array.{at}
-use Rattle.flow.specs.Search.{Linking, reverse}
-use Rattle.flow.proofs.Laws.{below?}
-use Rattle.maker.specs.Arrays.{Begun, Copied, Filling, Grouped, Holds, InRange, Named, Tables, arc}
+use Rattle.residual.specs.Array.{at}
+use Rattle.residual.specs.Search.{Linking, reverse}
+use Rattle.residual.proofs.Laws.{below?}
+use Rattle.attempt.specs.Arrays.{Begun, Copied, Filling, Grouped, Holds, InRange, Named, Tables, arc}
 use Rattle.maker.specs.Planned.{Planned}
-use Rattle.maker.proofs.Laws.{zero-at}
-use Rattle.maker.proofs.AllLaid.{side}
+use Rattle.attempt.proofs.Laws.{zero-at}
+use Rattle.attempt.proofs.AllLaid.{side}
 
 -- the arrays before they are filled
 pub fill-begins : (table : List Site) → Filling table (replicate 1024 64) (replicate 512 0) 0

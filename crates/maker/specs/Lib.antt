@@ -1,6 +1,2 @@
-pub mod Outcome
-pub mod Lay
-pub mod Attempt
-pub mod Arrays
 pub mod Planned
 pub mod Make

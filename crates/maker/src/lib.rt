@@ -1,22 +1,18 @@
 // Makes a plan: splits the listed depots into groups that are level, each denser than the next.
-// A site i has two arcs, i at its first depot and 512 + i at its second: `ends` has their depots, 64 where there is no site, `share` what each has.
+// Site i is at the places i and 512 + i of `ends` and `share`, for its first and its second depot (see `attempt`).
 ghost use mathlib.Core.Path.{_≡_};
-ghost use mathlib.Core.Bool.{cond, _&&_, _||_};
 ghost use Prim.Native.Nat.{ℕ, _+_, _*_, _-_, _<_, _≤_, _^_};
-ghost use lib.Dec.{T, eqb};
+ghost use lib.Dec.{T};
 ghost use lib.ListN.{length, set};
-ghost use Rattle.sets.specs.Sum.{when};
 ghost use Rattle.sets.specs.Set.{_∪_, only, has, setOf, weigh};
 ghost use Rattle.density.specs.Network.{depotsInRange};
 ghost use Rattle.records.specs.Values.{listing};
 ghost use Rattle.records.specs.Format.{edition1, readList};
 ghost use Rattle.records.specs.declared.Read.the-variants as read;
 ghost use Rattle.records.specs.declared.Wrote.the-variants as wrote;
-ghost use Rattle.flow.specs.Array.{at, totalLoad};
-ghost use Rattle.flow.specs.Search.{Linked};
-ghost use Rattle.maker.specs.Lay.{raise, Listed, SiteLaid, Ready, Laying, Aiming};
-ghost use Rattle.maker.specs.Attempt.{Stage, Attempted};
-ghost use Rattle.maker.specs.Arrays.{InRange, Filling, Named, Tables, Begun, Grouped, Copied};
+ghost use Rattle.residual.specs.Array.{at};
+ghost use Rattle.residual.specs.Search.{Linked};
+ghost use Rattle.attempt.specs.Arrays.{InRange, Filling, Named, Tables, Begun, Grouped, Copied};
 ghost use Rattle.maker.specs.Planned.{Planned};
 ghost use Rattle.maker.specs.Make.{Made};
 use density::Site;
@@ -25,198 +21,6 @@ use records::ListArray;
 use records::PlanArray;
 use records::Read;
 use records::Wrote;
-
-// Is depot d in the set?
-fn contains(set: u64, d: usize) -> bool
-    requires { ⌜ d < 64 ⌝ }
-    ensures { λ r. ⌜ r ≡ has set d ⌝ }
-{
-    sets::contains(set, d as u8)
-}
-
-fn both(a: bool, b: bool) -> bool
-    ensures { λ r. ⌜ r ≡ (a && b) ⌝ }
-{
-    if a {
-        return b;
-    }
-    false
-}
-
-// Does a set carry a site, by whether the site's depots x and y are in the set and in what is grouped?
-fn carried(sx: bool, sy: bool, bx: bool, by: bool) -> bool
-    ensures { λ r. ⌜ r ≡ (((sx || bx) && (sy || by)) && (sx || sy)) ⌝ }
-{
-    if sx {
-        if sy {
-            return true;
-        }
-        return by;
-    }
-    if sy {
-        return bx;
-    }
-    false
-}
-
-fn part(there: bool, x: u64) -> u64
-    ensures { λ r. ⌜ r ≡ when there x ⌝ }
-{
-    if there {
-        return x;
-    }
-    0
-}
-
-// Adds m to the load of depot d.
-fn add_to(load: &mut [u64], d: usize, m: u64)
-    requires { ⌜ (d < 64) × (length (now load) ≡ 64) × (totalLoad (now load) + m < 2 ^ 64) ⌝ }
-    ensures { λ _. ⌜ now (load .exit) ≡ raise (now (load .entry)) d m ⌝ }
-{
-    load[d] = load[d] + m;
-}
-
-// Stores the shares of site i.
-fn store(share: &mut [u64], i: usize, first: u64, second: u64)
-    requires { ⌜ (i < 512) × (length (now share) ≡ 1024) ⌝ }
-    ensures { λ _. ⌜ now (share .exit) ≡ set (set (now (share .entry)) i first) (512 + i) second ⌝ }
-{
-    share[i] = first;
-    share[512 + i] = second;
-}
-
-// Lays site i whole on one of its depots, if the set carries it. The litres that it brings.
-fn lay_site(
-    ends: &[usize],
-    litres: &[u64],
-    set: u64,
-    before: u64,
-    q: u64,
-    i: usize,
-    share: &mut [u64],
-    load: &mut [u64],
-) -> u64
-    requires { ⌜ Listed (now ends) (now litres) ⌝ }
-    requires { ⌜ (i < 512) × (length (now share) ≡ 1024) × (length (now load) ≡ 64) × (totalLoad (now load) + q * at (now litres) i < 2 ^ 64) ⌝ }
-    ensures { λ r. ⌜ SiteLaid (now (ends .entry)) (now (litres .entry)) (has set) (has before) q i (now (share .entry)) (now (load .entry)) r (now (share .exit)) (now (load .exit)) ⌝ }
-{
-    let x = ends[i];
-    if 64 <= x {
-        return 0;
-    }
-    let y = ends[512 + i];
-    let bx = contains(before, x);
-    let by = contains(before, y);
-    let old = both(bx, by);
-    if old {
-        return 0;
-    }
-    let sx = contains(set, x);
-    let w = part(carried(sx, contains(set, y), bx, by), litres[i]);
-    let t = q * w;
-    let first = part(sx, t);
-    let second = t - first;
-    store(share, i, first, second);
-    add_to(load, x, first);
-    add_to(load, y, second);
-    w
-}
-
-// Lays all sites of the set, given what is grouped before, at the scale q. The litres of the set.
-pub fn lay(
-    ends: &[usize],
-    litres: &[u64],
-    set: u64,
-    before: u64,
-    q: u64,
-    share: &mut [u64],
-    load: &mut [u64],
-) -> u64
-    requires { ⌜ Ready (now ends) (now litres) (has set) (has before) q ⌝ }
-    requires { ⌜ Laying (now ends) (now litres) (has set) (has before) q (now share) 0 (now share) (now load) 0 ⌝ }
-    ensures { λ r. ⌜ Laying (now (ends .entry)) (now (litres .entry)) (has set) (has before) q (now (share .entry)) r (now (share .exit)) (now (load .exit)) 512 ⌝ }
-{
-    let mut total: u64 = 0;
-    let mut i: usize = 0;
-    while i < 512 {
-        total = total + lay_site(ends, litres, set, before, q, i, share, load);
-        i += 1;
-    }
-    total
-}
-
-// The depots that take part and were not reached.
-fn unreached(rank: &[usize]) -> u64
-    requires { ⌜ length (now rank) ≡ 64 ⌝ }
-    ensures { λ r. ⌜ r ≡ setOf (λ d. eqb (at (now (rank .entry)) d) 64) 64 ⌝ }
-{
-    let mut set: u64 = 0;
-    let mut d: usize = 0;
-    while d < 64 {
-        let place = rank[d];
-        if place == 64 {
-            set = sets::with(set, d as u8);
-        }
-        d += 1;
-    }
-    set
-}
-
-fn mark(t: bool) -> usize
-    ensures { λ r. ⌜ r ≡ cond t 64 65 ⌝ }
-{
-    if t {
-        return 64;
-    }
-    65
-}
-
-// The targets and ranks for pushes within the set: each of its depots is to have w for each of its crews.
-pub fn aim(crews: &[u64], set: u64, w: u64, target: &mut [u64], rank: &mut [usize])
-    requires { ⌜ (length (now crews) ≡ 64) × ((d : ℕ) → d < 64 → w * at (now crews) d < 2 ^ 64) ⌝ }
-    requires { ⌜ Aiming (now crews) set w (now target) (now rank) 0 ⌝ }
-    ensures { λ _. ⌜ Aiming (now (crews .entry)) set w (now (target .exit)) (now (rank .exit)) 64 ⌝ }
-{
-    let mut d: usize = 0;
-    while d < 64 {
-        let t = contains(set, d);
-        target[d] = part(t, w * crews[d]);
-        rank[d] = mark(t);
-        d += 1;
-    }
-}
-
-// Lays the set and pushes its shares. The whole set where it is level, else its denser part.
-pub fn attempt(
-    ends: &[usize],
-    chain: &[usize],
-    litres: &[u64],
-    crews: &[u64],
-    set: u64,
-    before: u64,
-    q: u64,
-    share: &mut [u64],
-) -> u64
-    requires { ⌜ Stage (now ends) (now chain) (now litres) (now crews) set before q (now share) ⌝ }
-    ensures { λ r. ⌜ Attempted (now (ends .entry)) (now (litres .entry)) (now (crews .entry)) set before q (now (share .entry)) r (now (share .exit)) ⌝ }
-{
-    let mut load = [0u64; 64];
-    let mut target = [0u64; 64];
-    let mut order = [0usize; 64];
-    let mut rank = [0usize; 64];
-    let w = lay(ends, litres, set, before, q, share, &mut load);
-    aim(crews, set, w, &mut target, &mut rank);
-    flow::relax(
-        ends,
-        chain,
-        &target,
-        share,
-        &mut load,
-        &mut order,
-        &mut rank,
-    );
-    unreached(&rank)
-}
 
 // The crews of the set's depots added up: with one crew each, the number of its depots.
 fn size(crews: &[u64], set: u64) -> u64
@@ -258,7 +62,7 @@ fn split(
         let all = stack[top];
         let set = sets::without(all, before);
         let q = size(crews, set);
-        let dense = attempt(ends, chain, litres, crews, set, before, q, share);
+        let dense = attempt::attempt(ends, chain, litres, crews, set, before, q, share);
         if dense == set {
             groups[n] = set;
             n += 1;
@@ -390,14 +194,14 @@ fn make_by(e: Edition, list: &[u8], out: &mut [u8]) -> Wrote
     requires { ⌜ (e .litres ≤ 4) × (e .share ≤ 8) × (256 ^ e .litres * 64 ≤ 256 ^ e .share) ⌝ }
     ensures { λ r. ⌜ Made e (readList e 512 (now (list .entry))) (now (out .entry)) r (now (out .exit)) ⌝ }
 {
-    let found = records::list::read(e, 512, list);
+    let found = readers::list::read(e, 512, list);
     let answer = found.answer;
     let Read::Count(n) = answer else {
         return hand_on(answer);
     };
     let l = found.list;
     let p = make_plan(l);
-    records::write::plan(e, p, n, out)
+    writers::plan(e, p, n, out)
 }
 
 // Make: writes a plan for the list at the front of `out`, and answers its length.

@@ -75,10 +75,8 @@ pub fn with_share(plan: PlanArray, i: usize, s: u64) -> PlanArray {
     }
 }
 
-// The pairs of depots 0 to 3.
-const FIRSTS: [u8; 10] = [0, 0, 0, 0, 1, 1, 1, 2, 2, 3];
-
-const SECONDS: [u8; 10] = [0, 1, 2, 3, 1, 2, 3, 2, 3, 3];
+// The pairs of depots 0 to 3, each as 4 × first + second.
+const PAIRS: [u8; 10] = [0, 1, 2, 3, 5, 6, 7, 10, 11, 15];
 
 // Each place's own number.
 fn numbers() -> [usize; 32] {
@@ -121,13 +119,14 @@ fn less(n: usize, counts: [usize; 32], k: usize) -> usize {
 
 // The list with a site of kind 1 to 30 more: a pair of depots below 4 and 1 to 3 litres.
 fn with_kind(list: ListArray, kind: usize) -> ListArray {
-    if kind == 0 || 30 < kind {
+    if kind == 0 {
         return list;
     }
     let pair = (kind - 1) / 3;
     if pair < 10 {
+        let x = PAIRS[pair];
         let litres = ((kind - 1) % 3) as u32;
-        return with_site(list, FIRSTS[pair], SECONDS[pair], litres + 1);
+        return with_site(list, x / 4, x % 4, litres + 1);
     }
     list
 }
@@ -404,17 +403,19 @@ fn litres_at(list: ListArray, i: usize) -> u64 {
     0
 }
 
-// The plan changed at place p in one of KINDS ways; unchanged where it has nothing to change there.
-fn change(list: ListArray, plan: PlanArray, kind: usize, p: usize) -> PlanArray {
+// The plan with one share at place p or some from there on changed, in one of 9 ways.
+fn change_shares(list: ListArray, plan: PlanArray, kind: usize, p: usize) -> PlanArray {
     let q = std::num::wrapping_add_usize(p, 1);
-    let r = std::num::wrapping_add_usize(p, 2);
     match kind {
         0 => one_more(list, plan, p),
         1 => one_less(list, plan, p),
         2 => exchanged(list, plan, p, q),
         3 => one_more(list, one_less(list, plan, q), p),
         4 => one_more(list, one_more(list, plan, q), p),
-        5 => one_more(list, one_more(list, one_less(list, plan, r), q), p),
+        5 => {
+            let r = std::num::wrapping_add_usize(p, 2);
+            one_more(list, one_more(list, one_less(list, plan, r), q), p)
+        }
         6 => changed(list, plan, p, 0),
         7 => changed(
             list,
@@ -422,7 +423,15 @@ fn change(list: ListArray, plan: PlanArray, kind: usize, p: usize) -> PlanArray 
             p,
             std::num::wrapping_add_u64(share_at(plan, p), litres_at(list, p)),
         ),
-        8 => no_shares(plan),
+        _ => no_shares(plan),
+    }
+}
+
+// The plan with its groups at place p changed, in one of 11 ways, 9 to 19.
+fn change_groups(plan: PlanArray, kind: usize, p: usize) -> PlanArray {
+    let q = std::num::wrapping_add_usize(p, 1);
+    let set = group_at(plan, p);
+    match kind {
         9 => merged(plan, p),
         10 => split(plan, p, true),
         11 => split(plan, p, false),
@@ -431,11 +440,19 @@ fn change(list: ListArray, plan: PlanArray, kind: usize, p: usize) -> PlanArray 
         14 => with_group_before(plan, p, 0),
         15 => moved(plan, p, q),
         16 => moved(plan, q, p),
-        17 => with_group(plan, group_at(plan, p)),
-        18 => with_group_at(plan, p, group_at(plan, p) | 2048),
-        19 => with_group_at(plan, p, group_at(plan, p) & !lowest(group_at(plan, p))),
+        17 => with_group(plan, set),
+        18 => with_group_at(plan, p, set | 2048),
+        19 => with_group_at(plan, p, set & !lowest(set)),
         _ => plan,
     }
+}
+
+// The plan changed at place p in one of KINDS ways; unchanged where it has nothing to change there.
+fn change(list: ListArray, plan: PlanArray, kind: usize, p: usize) -> PlanArray {
+    if kind < 9 {
+        return change_shares(list, plan, kind, p);
+    }
+    change_groups(plan, kind, p)
 }
 
 const KINDS: usize = 20;

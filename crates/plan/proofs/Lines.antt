@@ -16,9 +16,9 @@ use Rattle.density.proofs.Places.{follow-next}
 use Rattle.records.specs.declared.ListArray.{ListArray}
 use Rattle.records.specs.declared.PlanArray.{PlanArray}
 use Rattle.records.specs.Values.{listing}
-use Rattle.verify.specs.Tables.{net, groupsIn, sharesIn, Holds, Ready, Tables, Litres}
-use Rattle.verify.proofs.Shares.{sites-count, groups-count, place-lt, siteOf, firstOf, secondOf, sizeOf, entry}
-use Rattle.verify.proofs.Verdicts.{tables}
+use Rattle.tables.specs.Tables.{net, groupsIn, sharesIn, Holds, Ready, Tables, Litres}
+use Rattle.tables.proofs.Shares.{sites-count, groups-count, place-lt, siteOf, firstOf, secondOf, sizeOf, entry}
+use Rattle.tables.proofs.Verdicts.{tables}
 use Rattle.report.proofs.Lines.{ready}
 use Rattle.maker.specs.Planned.{Planned}
 use Rattle.plan.specs.declared.GroupLine.{GroupLine}

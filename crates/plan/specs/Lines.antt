@@ -7,7 +7,7 @@ use Rattle.density.specs.Network.{Network}
 use Rattle.density.specs.Plan.{carrier, groupSize, groupLitres, firstShare, secondShare}
 use Rattle.records.specs.declared.ListArray.{ListArray}
 use Rattle.records.specs.declared.PlanArray.{PlanArray}
-use Rattle.verify.specs.Tables.{net, groupsIn, Holds, Ready, Tables}
+use Rattle.tables.specs.Tables.{net, groupsIn, Holds, Ready, Tables}
 use Rattle.maker.specs.Planned.{Planned}
 use Rattle.plan.specs.declared.GroupLine.{GroupLine}
 use Rattle.plan.specs.declared.SiteLine.{SiteLine}

@@ -13,7 +13,7 @@ ghost use Rattle.density.specs.Network.{depotsInRange};
 ghost use Rattle.density.specs.Groups.{groupsOf};
 ghost use Rattle.density.specs.Plan.{Rules};
 ghost use Rattle.records.specs.Values.{listing};
-ghost use Rattle.verify.specs.Tables.{net, sharesIn};
+ghost use Rattle.tables.specs.Tables.{net, sharesIn};
 ghost use Rattle.maker.specs.Planned.{Planned};
 ghost use Rattle.plan.specs.Lines.{groupLine, siteLine, Weighed, Charted};
 
@@ -96,7 +96,7 @@ pub fn site_line(
     ensures { λ r. ⌜ Rules (net list) (groupsOf (net list)) (sharesIn list plan) i × (0 < r .size) ⌝ }
 {
     let s = list.sites[i];
-    let all = verify::whole(s, places, sizes);
+    let all = tables::whole(s, places, sizes);
     let size = carrier_size(sizes, places[s.first as usize], places[s.second as usize]);
     let share = plan.shares[i];
     let first = Part {
@@ -161,23 +161,40 @@ fn print_depots(set: u64) {
     }
 }
 
+// Prints litres and a text behind them.
+fn print_litres(x: u64, after: &[u8]) {
+    count(x, b" litre", b" litres");
+    print(after);
+}
+
+// What follows `depot` for a group of one depot, and for one of more.
+fn print_one(x: GroupLine) {
+    print(b" ");
+    print_depots(x.depots);
+    print(b"carries ");
+    print_litres(x.litres, b"\n");
+}
+
+fn print_several(x: GroupLine)
+    requires { ⌜ 0 < x .size ⌝ }
+{
+    print(b"s ");
+    print_depots(x.depots);
+    print(b"carry ");
+    print_litres(x.litres, b", ");
+    print_mixed(x.litres, x.size, b" each\n");
+}
+
 fn print_group(k: usize, x: GroupLine)
     requires { ⌜ (k < 64) × (0 < x .size) ⌝ }
 {
     print(b"group ");
     number(k as u64 + 1, b": depot");
     if x.size == 1 {
-        print(b" ");
-        print_depots(x.depots);
-        print(b"carries ");
-        count(x.litres, b" litre\n", b" litres\n");
-        return;
+        print_one(x);
+    } else {
+        print_several(x);
     }
-    print(b"s ");
-    print_depots(x.depots);
-    print(b"carry ");
-    count(x.litres, b" litre, ", b" litres, ");
-    print_mixed(x.litres, x.size, b" each\n");
 }
 
 fn print_part(x: Part, size: u64, after: &[u8])
@@ -189,18 +206,24 @@ fn print_part(x: Part, size: u64, after: &[u8])
 }
 
 // An own site has one depot to print.
-fn print_site(i: usize, x: SiteLine)
+fn print_parts(x: SiteLine)
     requires { ⌜ 0 < x .size ⌝ }
 {
-    print(b"site ");
-    number(i as u64, b": ");
     if x.first.depot != x.second.depot {
         print_part(x.first, x.size, b", ");
         print_part(x.second, x.size, b" of ");
     } else {
         print_part(x.first, x.size, b" of ");
     }
-    count(x.litres, b" litre\n", b" litres\n");
+}
+
+fn print_site(i: usize, x: SiteLine)
+    requires { ⌜ 0 < x .size ⌝ }
+{
+    print(b"site ");
+    number(i as u64, b": ");
+    print_parts(x);
+    print_litres(x.litres, b"\n");
 }
 
 // Prints how many sites, listed depots and groups there are.
@@ -208,7 +231,7 @@ fn print_counts(list: ListArray, groups: usize)
     requires { ⌜ (list .count ≤ 512) × T (depotsInRange (listing list)) ⌝ }
 {
     count(list.count as u64, b" site, ", b" sites, ");
-    count(sets::size(verify::listed(list)), b" depot, ", b" depots, ");
+    count(sets::size(tables::listed(list)), b" depot, ", b" depots, ");
     count(groups as u64, b" group\n", b" groups\n");
 }
 
@@ -240,12 +263,31 @@ fn print_plan(list: ListArray, plan: PlanArray)
     let n = plan.count;
     let sets = plan.groups;
     let groups = &sets[..n];
-    let places = verify::places(groups);
-    let sizes = verify::sizes(groups);
-    let litres = verify::litres(list, &places);
+    let places = tables::places(groups);
+    let sizes = tables::sizes(groups);
+    let litres = tables::litres(list, &places);
     print_counts(list, n);
     print_groups(list, plan, &litres, &sizes);
     print_sites(list, plan, &places, &sizes);
+}
+
+// Prints what the rows of a list's head mean.
+fn print_head_row(row: u8) {
+    match row {
+        1 => print(b"the list has under 4 bytes or does not begin with 4C 53\n"),
+        2 => print(b"the list has more than 512 sites\n"),
+        _ => print(b"the list's length is not 4 + 6 x sites\n"),
+    }
+}
+
+// Prints what the rows of a list's sites mean.
+fn print_site_row(row: u8) {
+    match row {
+        4 => print(b"a site does not begin with 53 54\n"),
+        5 => print(b"a site names a depot above 63\n"),
+        6 => print(b"a site has 0 litres\n"),
+        _ => print(b"the list cannot be read\n"),
+    }
 }
 
 // Prints the row that refuses a list, and what it means.
@@ -254,20 +296,15 @@ fn print_refusal(answer: Read) {
         print(b"refused ");
         number(row as u64, b": ");
         match row {
-            1 => print(b"the list has under 4 bytes or does not begin with 4C 53\n"),
-            2 => print(b"the list has more than 512 sites\n"),
-            3 => print(b"the list's length is not 4 + 6 x sites\n"),
-            4 => print(b"a site does not begin with 53 54\n"),
-            5 => print(b"a site names a depot above 63\n"),
-            6 => print(b"a site has 0 litres\n"),
-            _ => print(b"the list cannot be read\n"),
+            1 | 2 | 3 => print_head_row(row),
+            _ => print_site_row(row),
         }
     }
 }
 
 // Prints what the program says of a list.
 pub fn show(input: &[u8]) {
-    let found = records::list::read(records::edition1(), 512, input);
+    let found = readers::list::read(records::edition1(), 512, input);
     let answer = found.answer;
     let Read::Count(_) = answer else {
         print_refusal(answer);

@@ -3,11 +3,8 @@ use density::Site;
 ghost use mathlib.Core.Path.{_≡_};
 ghost use Rattle.records.specs.Format.{edition1};
 
-pub mod list;
 pub mod number;
-pub mod plan;
 pub mod scan;
-pub mod write;
 
 // A list as a value: its first `count` places are the sites.
 pub struct ListArray {

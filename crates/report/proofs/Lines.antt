@@ -17,9 +17,9 @@ use Rattle.density.proofs.Figures.{depot-litres, depot-size, groups-few}
 use Rattle.records.specs.declared.ListArray.{ListArray}
 use Rattle.records.specs.declared.PlanArray.{PlanArray}
 use Rattle.records.specs.Values.{listing}
-use Rattle.verify.specs.Tables.{net, groupsIn, Holds, Ready, Litres, Placed}
-use Rattle.verify.proofs.Verdicts.{tables}
-use Rattle.verify.proofs.Shares.{placed}
+use Rattle.tables.specs.Tables.{net, groupsIn, Holds, Ready, Litres, Placed}
+use Rattle.tables.proofs.Verdicts.{tables}
+use Rattle.tables.proofs.Shares.{placed}
 use Rattle.maker.specs.Planned.{Planned}
 use Rattle.report.specs.declared.Line.{Line}
 use Rattle.report.specs.Line.{lineOf, Figures}

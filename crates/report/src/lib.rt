@@ -10,7 +10,7 @@ ghost use lib.Dec.{T};
 ghost use lib.ListN.{length, getD};
 ghost use Rattle.density.specs.Network.{Network, depotsInRange};
 ghost use Rattle.records.specs.Values.{listing};
-ghost use Rattle.verify.specs.Tables.{net};
+ghost use Rattle.tables.specs.Tables.{net};
 ghost use Rattle.maker.specs.Planned.{Planned};
 ghost use Rattle.report.specs.Line.{lineOf, Figures};
 
@@ -53,7 +53,7 @@ fn print_lines(list: ListArray, places: &[u8], litres: &[u64], sizes: &[u64])
     requires { ⌜ (list .count ≤ 512) × T (depotsInRange (listing list)) ⌝ }
     requires { ⌜ Figures (net list) (now places) (now litres) (now sizes) ⌝ }
 {
-    let all = verify::listed(list);
+    let all = tables::listed(list);
     io::write_all(STDOUT_FILENO, b"depots ");
     number(sets::size(all), b"\n");
     let mut d: u8 = 0;
@@ -73,9 +73,9 @@ fn print_plan(list: ListArray, plan: PlanArray)
     let n = plan.count;
     let sets = plan.groups;
     let groups = &sets[..n];
-    let places = verify::places(groups);
-    let sizes = verify::sizes(groups);
-    let litres = verify::litres(list, &places);
+    let places = tables::places(groups);
+    let sizes = tables::sizes(groups);
+    let litres = tables::litres(list, &places);
     print_lines(list, &places, &litres, &sizes);
 }
 
@@ -89,7 +89,7 @@ fn print_refusal(answer: Read) {
 
 // Prints what the program says of a list.
 pub fn print(input: &[u8]) {
-    let found = records::list::read(records::edition1(), 512, input);
+    let found = readers::list::read(records::edition1(), 512, input);
     let answer = found.answer;
     let Read::Count(_) = answer else {
         print_refusal(answer);

@@ -33,7 +33,8 @@ use Rattle.store.specs.declared.Request.the-variants.{Load, Change, Prop
 use Rattle.store.specs.Calls.{Call, Reply, Told, refused, done, shared, loaded, differ, wrote}
 use Rattle.judge.specs.Check.{True}
 use Rattle.store.specs.Model.{Model, emptyModel, Proposes, turned, turn, modelRows}
-use Rattle.store.specs.State.{State, modelOf}
+use Rattle.held_state.specs.Held.{State}
+use Rattle.store.specs.State.{modelOf}
 use Rattle.store.specs.Trace.{start, then, History, Modelled, AllBytes}
 use Rattle.store.proofs.Plans.{rows-of-true}
 use Rattle.store.proofs.OneModel.{one-model}

@@ -27,7 +27,8 @@ use Rattle.store.specs.declared.Request.the-variants.{Load, Change, Add,
 use Rattle.store.specs.Calls.{Call, Reply, Told, refused, done, shared, loaded, differ}
 use Rattle.judge.specs.Check.{True}
 use Rattle.store.specs.Model.{Model, missing, held, count, unlisted, rowsOf, modelRows, Turn, Turns, Proposes, SaysOf, Says, grantOf, settled, turned}
-use Rattle.store.specs.State.{State, Done, modelOf, planHeld, listOf, corrupt, fresh, effectOf, refusal, settle, step}
+use Rattle.held_state.specs.Held.{State, planHeld, listOf, corrupt}
+use Rattle.store.specs.State.{Done, modelOf, fresh, effectOf, refusal, settle, step}
 use Rattle.store.specs.Trace.{Run, start, then, Steps, History, AllBytes, after, passedSince, Question, Each, Exact}
 use Rattle.store.proofs.Rules.{granted-not-refused}
 use Rattle.store.proofs.Steps.{Holds, holds-valid, Fed, fed, fresh-holds, row-zero-off, kept, not-zero}

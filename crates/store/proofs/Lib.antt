@@ -1,16 +1,9 @@
 pub mod Rules
 pub mod Plans
-pub mod Intact
 pub mod Steps
 pub mod OneModel
 pub mod History
 pub mod Examples
 pub mod ServeRules
-pub mod ServeZero
 pub mod ServeCalls
-pub mod ServeFigures
 pub mod ServeQuestions
-pub mod Edition1Fits
-pub mod Edition1Widths
-pub mod Rows1
-pub mod Contracts

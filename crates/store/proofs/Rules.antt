@@ -13,7 +13,8 @@ use Rattle.store.specs.declared.Request.{Request}
 use Rattle.store.specs.declared.Request.the-variants.{Load, Change, Add, Propose, Share, Depot, Difference, Written}
 use Rattle.store.specs.Calls.{Call, refused}
 use Rattle.store.specs.Model.{Model, rowsOf}
-use Rattle.store.specs.State.{State, Done, firstOf, settle, effectOf}
+use Rattle.held_state.specs.Held.{State}
+use Rattle.store.specs.State.{Done, firstOf, settle, effectOf}
 
 -- ---- rows behind rows
 

@@ -26,21 +26,22 @@ use Rattle.records.proofs.RoundTrip.{list-read, plan-read}
 use Rattle.records.proofs.Records.{length-records}
 use Rattle.records.proofs.Answers.{plan-array}
 use Rattle.records.proofs.Outcomes.{or-false}
-use Rattle.verify.specs.declared.Verdict.the-variants as verdict
-use Rattle.verify.specs.Verdict.{verdict}
-use Rattle.verify.specs.Tables.{Counted}
+use Rattle.tables.specs.declared.Verdict.the-variants as verdict
+use Rattle.tables.specs.Verdict.{verdict}
+use Rattle.tables.specs.Tables.{Counted}
 use Rattle.table.specs.Table.{overlay, heldOf}
 use Rattle.table.proofs.Overlay.{overlay-none, overlay-set}
-use Rattle.store.specs.declared.Store.{Store}
+use Rattle.held_state.specs.declared.Store.{Store}
 use Rattle.store.specs.declared.Request.{Request}
 use Rattle.store.specs.declared.Request.the-variants.{Load, Change, Add, Propose, Written as WrittenOut}
 use Rattle.store.specs.declared.Decision.{Decision}
 use Rattle.store.specs.declared.Answer.the-variants as of
 use Rattle.store.specs.Model.{withLitres, missing}
-use Rattle.store.specs.State.{State, listOf, planHeld, corrupt, planRow, firstOf, rowFor, refusal, bare}
-use Rattle.store.specs.Serve.{on, takes, Served}
+use Rattle.held_state.specs.Held.{State, listOf, planHeld, corrupt, on}
+use Rattle.store.specs.State.{planRow, firstOf, rowFor, refusal, bare}
+use Rattle.store.specs.Serve.{takes, Served}
 use Rattle.store.proofs.Plans.{settle-refused, settle-passed}
-use Rattle.store.proofs.Intact.{intact→, listing, good-range}
+use Rattle.held_state.proofs.Intact.{intact→, listing, good-range}
 use Rattle.store.proofs.ServeRules.{Sound, model, call, values, front, held-count, refuses, grants, row-is}
 
 -- ---- verdicts

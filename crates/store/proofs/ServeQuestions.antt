@@ -1,14 +1,12 @@
 -- What the questions for a share, a depot and a difference decide: each case of the code is a case of the step. Assumes nothing.
-use mathlib.Core.Path.{_≡_, sym, ap, _∙_, subst}
-use mathlib.Core.Bool.{true, false, _||_}
+use mathlib.Core.Path.{_≡_, refl, sym, ap, _∙_, subst}
+use mathlib.Core.Bool.{Bool, true, false, not, _&&_, _||_}
 use mathlib.Core.List.{List}
 use mathlib.Core.Option.{none}
 use Prim.Native.Nat.{ℕ, _*_, _≤_, _<_, _^_}
-use native.Mathlib.Nat.{mul-le-mul}
 use native.Mathlib.Omega.{arith}
 use borrow.Author.Tests.{le-leb, lt-leb}
 use lib.Dec.{T}
-use lib.IntN.{ℤ}
 use lib.ListN.{length, getD, take}
 use Rattle.sets.proofs.Test.{is-false, passes}
 use Rattle.density.specs.declared.Site.{Site}
@@ -18,20 +16,21 @@ use Rattle.density.specs.Rows.{firstRow, groupsMeet, groupsUnlisted, sharesBrok
 use Rattle.density.specs.Figures.{differenceOf}
 use Rattle.records.specs.declared.Edition.{Edition}
 use Rattle.records.specs.declared.PlanArray.{PlanArray}
-use Rattle.verify.specs.Tables.{Ready}
-use Rattle.verify.proofs.Verdicts.{ready}
+use Rattle.tables.specs.Tables.{Ready}
+use Rattle.tables.proofs.Verdicts.{ready}
 use Rattle.table.specs.Table.{heldOf}
 use Rattle.table.proofs.Overlay.{overlay-none}
-use Rattle.store.specs.declared.Store.{Store}
+use Rattle.held_state.specs.declared.Store.{Store}
 use Rattle.store.specs.declared.Request.{Request}
 use Rattle.store.specs.declared.Request.the-variants.{Share, Depot, Difference}
 use Rattle.store.specs.declared.Decision.{Decision}
 use Rattle.store.specs.declared.Answer.{Answer}
 use Rattle.store.specs.declared.Answer.the-variants as of
 use Rattle.store.specs.Calls.{same, told}
-use Rattle.store.specs.State.{State, listOf, planHeld, corrupt, stays, rowFor, effectOf, litresAt, sizeAt}
+use Rattle.held_state.specs.Held.{State, listOf, planHeld, corrupt, litresAt, sizeAt}
+use Rattle.store.specs.State.{stays, rowFor, effectOf}
 use Rattle.store.specs.Serve.{Served}
-use Rattle.store.proofs.Intact.{neither, intact→, good-range}
+use Rattle.held_state.proofs.Intact.{neither, intact→, good-range}
 use Rattle.store.proofs.ServeCalls.{plan-counted-in}
 use Rattle.store.proofs.ServeRules.{Sound, model, call, values, front, held-count, refuses, grants, row-is, AtTable}
 
@@ -53,15 +52,10 @@ ready-held s h held wide deep low plan q =
 pub in-range : (s : State) → corrupt s ≡ false → (s .store .count ≤ 512) × T (depotsInRange (listOf s))
 in-range s h = let i = intact→ s h in (i .few, good-range (listOf s) (i .good))
 
--- the answer for a difference
-pub difference-answer : (store : Store) (sites : List Site) (wa qa wb qb wa′ qa′ wb′ qb′ : ℕ) (d : ℤ) → d ≡ differenceOf wa qa wb qb → wa ≡ wa′ → qa ≡ qa′ → wb ≡ wb′ → qb ≡ qb′
-    → _≡_ {A = Decision} (record { answer = of.Difference d (qa * qb); store = store; sites = sites; n = 0 })
-    (record { answer = of.Difference (differenceOf wa′ qa′ wb′ qb′) (qa′ * qb′); store = store; sites = sites; n = 0 })
-difference-answer store sites wa qa wb qb wa′ qa′ wb′ qb′ d e a b c f = rw (e, a, b, c, f)
-
--- a product of W and q
-pub product-small : (w q : ℕ) → w ≤ 512 * 2 ^ 32 → q ≤ 576 → w * q < 2 ^ 52
-product-small w q l m = omega (arith, mul-le-mul l m)
+-- one of two is not so
+not-both : (x y : Bool) → (x && y) ≡ false → (not x || not y) ≡ true
+not-both true y h = rw h
+not-both false y h = refl
 
 module _ (e : Edition) (store : Store) (sites : List Site) (places : ℕ) (input buffer : List ℕ) (r : Decision) (s : Sound e store sites places) (held : store .held ≡ true) where
   abbrev Refusal : ℕ → Type 0
@@ -116,22 +110,17 @@ module _ (e : Edition) (store : Store) (sites : List Site) (places : ℕ) (input
         answers (Depot d) (of.Depot (litresAt state d) (sizeAt state d)) (rw (held, u)) (λ table x y. rw (at-table table x y))
 
   module _ (a b : ℕ) where
-    pub first-unlisted : network (listOf state) .listed a ≡ false → Refusal 19 → Goes (Difference a b)
+    pub pair-unlisted : (network (listOf state) .listed a && network (listOf state) .listed b) ≡ false → Refusal 19 → Goes (Difference a b)
     unfolding firstRow
-    first-unlisted u =
+    pair-unlisted u =
         refuses e store sites places (Difference a b) input buffer 19
-        (λ table x y. row-is e store sites places (Difference a b) input buffer s table x y ∙ rw (held, u)) r
+        (λ table x y.
+        row-is e store sites places (Difference a b) input buffer s table x y
+        ∙ rw (held, not-both (network (listOf state) .listed a) (network (listOf state) .listed b) u)) r
 
-    module _ (u : network (listOf state) .listed a ≡ true) where
-      pub second-unlisted : network (listOf state) .listed b ≡ false → Refusal 19 → Goes (Difference a b)
-      unfolding firstRow
-      second-unlisted v =
-          refuses e store sites places (Difference a b) input buffer 19
-          (λ table x y. row-is e store sites places (Difference a b) input buffer s table x y ∙ rw (held, u, v)) r
-
-      pub difference-told : network (listOf state) .listed b ≡ true
-          → Answered (of.Difference (differenceOf (litresAt state a) (sizeAt state a) (litresAt state b) (sizeAt state b)) (sizeAt state a * sizeAt state b)) → Goes (Difference a b)
-      unfolding firstRow
-      difference-told v =
-          answers (Difference a b) (of.Difference (differenceOf (litresAt state a) (sizeAt state a) (litresAt state b) (sizeAt state b)) (sizeAt state a * sizeAt state b))
-          (rw (held, u, v)) (λ table x y. rw (at-table table x y))
+    pub difference-told : network (listOf state) .listed a ≡ true → network (listOf state) .listed b ≡ true
+        → Answered (of.Difference (differenceOf (litresAt state a) (sizeAt state a) (litresAt state b) (sizeAt state b)) (sizeAt state a * sizeAt state b)) → Goes (Difference a b)
+    unfolding firstRow
+    difference-told u v =
+        answers (Difference a b) (of.Difference (differenceOf (litresAt state a) (sizeAt state a) (litresAt state b) (sizeAt state b)) (sizeAt state a * sizeAt state b))
+        (rw (held, u, v)) (λ table x y. rw (at-table table x y))

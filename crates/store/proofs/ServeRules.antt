@@ -15,15 +15,16 @@ use Rattle.records.specs.declared.Edition.{Edition}
 use Rattle.records.proofs.Outcomes.{or-false}
 use Rattle.table.specs.Table.{heldOf}
 use Rattle.table.proofs.Overlay.{overlay-none, held-length, held-front}
-use Rattle.store.specs.declared.Store.{Store}
+use Rattle.held_state.specs.declared.Store.{Store}
 use Rattle.store.specs.declared.Request.{Request}
 use Rattle.store.specs.declared.Decision.{Decision}
 use Rattle.store.specs.declared.Answer.the-variants as of
 use Rattle.store.specs.Calls.{Call}
 use Rattle.store.specs.Model.{Model}
-use Rattle.store.specs.State.{State, listOf, planHeld, modelOf, badPlan, corrupt, triesZero, rowFor, refusal, effectOf, step}
-use Rattle.store.specs.Serve.{on, decided, Served}
-use Rattle.store.proofs.Intact.{Good, listing, Intact, intact→, →intact, sized}
+use Rattle.held_state.specs.Held.{State, listOf, planHeld, badPlan, corrupt, on}
+use Rattle.store.specs.State.{modelOf, triesZero, rowFor, refusal, effectOf, step}
+use Rattle.store.specs.Serve.{decided, Served}
+use Rattle.held_state.proofs.Intact.{Good, listing, Intact, intact→, →intact, sized}
 
 module _ (e : Edition) (store : Store) (sites : List Site) (places : ℕ) where
   -- the state with the values in place of the table, and its model with the table's places

@@ -30,11 +30,12 @@ use Rattle.store.specs.declared.Request.the-variants.{Load, Change, Add,
 use Rattle.store.specs.Calls.{Call, Reply, same, refused, done, shared, loaded, differ, wrote}
 use Rattle.judge.specs.Check.{True}
 use Rattle.store.specs.Model.{Model, Says, listed, planned, missing, held, count, rowsOf, modelRows, proposalRows, withLitres, grantOf, settled, turned, turn}
-use Rattle.store.specs.State.{State, Done, listOf, planHeld, modelOf, badPlan, corrupt, triesZero, bare, fresh, holding, next, stays, litresAt, sizeAt, effectOf, rowFor, refusal, settle, step}
+use Rattle.held_state.specs.Held.{State, listOf, planHeld, badPlan, corrupt, litresAt, sizeAt}
+use Rattle.store.specs.State.{Done, modelOf, triesZero, bare, fresh, holding, next, stays, effectOf, rowFor, refusal, settle, step}
 use Rattle.store.specs.Trace.{Steps, Tidy}
 use Rattle.store.proofs.Rules.{none-both, first-both, never-row-zero, granted-not-refused, zero-answer}
 use Rattle.store.proofs.Plans.{formed, true-of-rows, rows-of-true}
-use Rattle.store.proofs.Intact.{neither, or-not, Good, listing, good-valid, good-set, good-add, good-litres, read-list, Intact, sized, intact→, →intact}
+use Rattle.held_state.proofs.Intact.{neither, or-not, Good, listing, good-valid, good-set, good-add, good-litres, read-list, Intact, sized, intact→, →intact}
 
 -- A state holds what it should: it is not corrupt, its plan is true of its list, and the places behind are zero.
 pub record Holds (s : State) : Type 0 where

@@ -3,4 +3,3 @@ pub mod Model
 pub mod State
 pub mod Trace
 pub mod Serve
-pub mod Edition1

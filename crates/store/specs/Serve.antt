@@ -10,15 +10,13 @@ use Rattle.density.specs.Network.{noSite}
 use Rattle.records.specs.declared.Edition.{Edition}
 use Rattle.records.specs.declared.PlanArray.{PlanArray}
 use Rattle.table.specs.Table.{overlay, heldOf}
-use Rattle.store.specs.declared.Store.{Store}
+use Rattle.held_state.specs.declared.Store.{Store}
+use Rattle.held_state.specs.Held.{State, on}
 use Rattle.store.specs.declared.Request.{Request}
 use Rattle.store.specs.declared.Decision.{Decision}
 use Rattle.store.specs.declared.Answer.the-variants as of
 use Rattle.store.specs.Calls.{told}
-use Rattle.store.specs.State.{State, Done, step}
-
-abbrev pub on : Edition → Store → List Site → State
-on e store table = record { edition = e; store = store; table = table }
+use Rattle.store.specs.State.{Done, step}
 
 -- the first n sites of a decision go to the table
 abbrev pub decided : State → Decision → List ℕ → Done

@@ -1,58 +1,30 @@
--- Document 01, "Entry points", the desk: what is held, and what each call does at any desk and table.
-use mathlib.Core.Bool.{Bool, true, false, cond, _&&_, _||_}
+-- Document 01, "Entry points", the desk: what each call does at any desk and table.
+use mathlib.Core.Bool.{Bool, true, false, cond, _&&_}
 use mathlib.Core.List.{List, _++_}
 use mathlib.Core.Option.{Option, none, some}
 use Prim.Native.Nat.{ℕ, _+_, _*_}
-use lib.Dec.{eqb, ltb}
-use lib.ListN.{length, getD, take, drop, set, replicate}
-use Rattle.sets.specs.Sum.{any}
+use lib.ListN.{length, getD, drop, set, replicate}
 use Rattle.density.specs.declared.Site.{Site}
-use Rattle.density.specs.Network.{Listing, network, siteAt}
-use Rattle.density.specs.Plan.{place, groupLitres, groupSize, whole}
-use Rattle.density.specs.Rows.{firstRow, groupsMeet, groupsUnlisted, sharesBroken, planRows}
+use Rattle.density.specs.Network.{network, siteAt}
+use Rattle.density.specs.Plan.{whole}
+use Rattle.density.specs.Rows.{firstRow, planRows}
 use Rattle.density.specs.Figures.{differenceOf}
 use Rattle.records.specs.declared.Edition.{Edition}
 use Rattle.records.specs.Values.{Plan}
 use Rattle.records.specs.Answer.{filled}
 use Rattle.records.specs.Format.{sitesOf, layoutRows, planOf}
 use Rattle.records.specs.Write.{planBytes, onto}
-use Rattle.store.specs.declared.Store.{Store}
+use Rattle.held_state.specs.declared.Store.{Store}
+use Rattle.held_state.specs.Held.{State, listOf, planHeld, corrupt, litresAt, sizeAt}
 use Rattle.store.specs.declared.Request.{Request}
 use Rattle.store.specs.declared.Request.the-variants.{Load, Change, Add, Propose, Share, Depot, Difference, Written}
 use Rattle.store.specs.Calls.{Call, Reply, same, refused, done, shared, loaded, differ, wrote}
 use Rattle.store.specs.Model.{Model, count, rowsOf, withLitres}
 
--- The desk (store) of an edition, and the table that it is lent.
-pub record State : Type 0 where
-  pub edition : Edition
-  pub store : Store
-  pub table : List Site
-
 -- the list held, and the plan held or the lack of one
-abbrev pub listOf : State → Listing
-listOf s = record { sites = take (s .store .count) (s .table) }
-
-abbrev pub planHeld : State → Plan
-planHeld s =
-    record { groups = take (s .store .grouped) (s .store .groups); shares = take (s .store .count) (s .store .shares) }
-
 abbrev pub modelOf : State → Model
 modelOf s =
     record { edition = s .edition; places = length (s .table); list = listOf s; plan = cond (s .store .held) (some (planHeld s)) none }
-
--- Row 0: "held site count above 512 or the table's places, a held site that rows 5 or 6 refuse, or a held plan that rows 8 or 12 to 14 refuse"
-abbrev pub badSite : Site → Bool
-badSite x = ltb 63 (x .first) || ltb 63 (x .second) || eqb (x .litres) 0
-
-abbrev pub badPlan : Listing → Plan → Bool
-badPlan l p = groupsMeet (p .groups) || groupsUnlisted (network l) (p .groups) || sharesBroken (network l) (p .groups) (p .shares)
-
-unfoldable pub corrupt : State → Bool
-corrupt s =
-    ltb 512 (s .store .count)
-    || ltb (length (s .table)) (s .store .count)
-    || any (λ i. badSite (siteAt (listOf s) i)) (s .store .count)
-    || (s .store .held && (ltb 64 (s .store .grouped) || badPlan (listOf s) (planHeld s)))
 
 -- every call but load tries row 0
 abbrev pub triesZero : Request → Bool
@@ -109,13 +81,6 @@ next s store table r = record { after = record { edition = s .edition; store = s
 
 abbrev pub stays : State → Reply → Done
 stays s r = record { after = s; reply = r }
-
--- W, q and w × q by the held groups
-abbrev pub litresAt : State → ℕ → ℕ
-litresAt s d = groupLitres (network (listOf s)) (planHeld s .groups) (place (planHeld s .groups) d)
-
-abbrev pub sizeAt : State → ℕ → ℕ
-sizeAt s d = groupSize (network (listOf s)) (planHeld s .groups) (place (planHeld s .groups) d)
 
 -- What a call does that no row refuses. "Success drops the plan, even if no figure differs, and sets its groups and share places to zero."
 -- "Table places beyond the sites keep their content."

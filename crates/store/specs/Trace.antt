@@ -19,7 +19,8 @@ use Rattle.store.specs.declared.Request.the-variants.{Load, Change, Add,
 use Rattle.store.specs.Calls.{Call, Reply, Told, refused, done, shared, loaded, differ, wrote}
 use Rattle.judge.specs.Check.{True}
 use Rattle.store.specs.Model.{Model, emptyModel, Says}
-use Rattle.store.specs.State.{State, modelOf, fresh, step}
+use Rattle.held_state.specs.Held.{State}
+use Rattle.store.specs.State.{modelOf, fresh, step}
 
 -- From a state, through these calls with these replies, to a state.
 pub data Run {S : Type 0} (Step : S → Call → Reply → S → Type 0) : S → List Call → List Reply → S → Type 0 where

@@ -2,33 +2,37 @@
 use crate::Answer;
 use crate::Decision;
 use crate::Request;
-use crate::Store;
 use density::Site;
+use held_state::Store;
+use held_state::are_listed;
+use held_state::difference_at;
+use held_state::is_corrupt;
+use held_state::is_listed;
+use held_state::litres_at;
+use held_state::plan_held;
+use held_state::size_at;
+use held_state::whole_at;
 use records::Edition;
 use records::ListArray;
 use records::PlanArray;
 use records::Read;
 use records::Wrote;
 use records::scan;
-use verify::Verdict;
+use tables::Verdict;
 ghost use mathlib.Core.Path.{_≡_};
 ghost use mathlib.Core.Bool.{true, false, _&&_, _||_};
 ghost use mathlib.Core.List.{List};
-ghost use Prim.Native.Nat.{ℕ, _*_, _^_, _<_, _≤_};
-ghost use lib.Dec.{T, ltb};
-ghost use lib.IntN.{pos, _-ℤ_};
-ghost use lib.ListN.{getD, take};
-ghost use Rattle.sets.specs.Sum.{any};
-ghost use Rattle.density.specs.Network.{noSite, depotsInRange};
-ghost use Rattle.density.specs.Plan.{place, groupSize, groupLitres, whole};
+ghost use Prim.Native.Nat.{ℕ, _≤_};
+ghost use lib.Dec.{ltb};
 ghost use Rattle.records.specs.declared.Edition.{Edition};
+ghost use Rattle.records.specs.Values.{planIn};
+ghost use Rattle.tables.specs.Tables.{Counted};
+ghost use Rattle.tables.specs.Verdict.{verdict};
+ghost use Rattle.held_state.specs.Held.{on, corrupt};
 ghost use Rattle.store.specs.declared.Answer.the-variants as answer;
 ghost use Rattle.store.specs.declared.Request.the-variants as request;
-ghost use Rattle.records.specs.Values.{listing, planIn};
-ghost use Rattle.verify.specs.Tables.{net, groupsIn, Counted, Ready};
-ghost use Rattle.verify.specs.Verdict.{verdict};
-ghost use Rattle.store.specs.State.{modelOf, badSite, badPlan, corrupt, triesZero, planRow, bare};
-ghost use Rattle.store.specs.Serve.{on, takes, Served};
+ghost use Rattle.store.specs.State.{modelOf, triesZero, planRow, bare};
+ghost use Rattle.store.specs.Serve.{takes, Served};
 
 // A refusal: nothing changes.
 fn refuse(store: Store, sites: [Site; 512], n: u8) -> Decision
@@ -61,79 +65,6 @@ fn without_plan(sites: [Site; 512], n: usize) -> Decision
         sites,
         n,
     }
-}
-
-// The plan held, as a value.
-fn plan_held(store: Store) -> PlanArray
-    ensures { λ r. ⌜ r ≡ record { count = store .grouped; groups = store .groups; shares = store .shares } ⌝ }
-{
-    let groups = store.groups;
-    let shares = store.shares;
-    PlanArray {
-        count: store.grouped,
-        groups,
-        shares,
-    }
-}
-
-// Do rows 5 or 6 refuse the site?
-fn is_bad(x: Site) -> bool
-    ensures { λ r. ⌜ r ≡ badSite x ⌝ }
-{
-    let depots = scan::either(63 < x.first, 63 < x.second);
-    scan::either(depots, x.litres == 0)
-}
-
-// Do they refuse one of the first n sites?
-fn is_any_bad(sites: [Site; 512], n: usize) -> bool
-    requires { ⌜ n ≤ 512 ⌝ }
-    ensures { λ r. ⌜ r ≡ any (λ i. badSite (getD sites i noSite)) n ⌝ }
-{
-    let mut i: usize = 0;
-    while i < n {
-        let x = sites[i];
-        if is_bad(x) {
-            return true;
-        }
-        i += 1;
-    }
-    false
-}
-
-// Do rows 12 to 14 refuse the plan?
-fn is_plan_bad(count: usize, sites: [Site; 512], plan: PlanArray) -> bool
-    requires { ⌜ Counted (record { count = count; sites = sites }) plan ⌝ }
-    ensures { λ r. ⌜ r ≡ badPlan (record { sites = take count sites }) (planIn plan count) ⌝ }
-{
-    let list = ListArray { count, sites };
-    match verify::form_row(list, plan) {
-        Verdict::Passes => false,
-        Verdict::Refused(_) => true,
-    }
-}
-
-// Row 0.
-fn is_corrupt(store: Store, sites: [Site; 512], places: usize) -> bool
-    ensures { λ r. ⌜ ((e : Edition) → r ≡ (ltb places (store .count) || corrupt (on e store sites))) ⌝ }
-{
-    let count = store.count;
-    if places < count {
-        return true;
-    }
-    if 512 < count {
-        return true;
-    }
-    if is_any_bad(sites, count) {
-        return true;
-    }
-    if !store.held {
-        return false;
-    }
-    let plan = plan_held(store);
-    if 64 < plan.count {
-        return true;
-    }
-    is_plan_bad(count, sites, plan)
 }
 
 // Changes the litres of site i.
@@ -183,7 +114,7 @@ fn load(e: Edition, store: Store, sites: [Site; 512], places: usize, input: &[u8
     requires { ⌜ e .litres ≤ 4 ⌝ }
     ensures { λ r. ⌜ ((buffer : List ℕ) → Served e store sites places request.Load (now (input .entry)) buffer r buffer) ⌝ }
 {
-    let read = records::list::read(e, places, input);
+    let read = readers::list::read(e, places, input);
     let answer = read.answer;
     match answer {
         Read::Count(n) => {
@@ -232,7 +163,7 @@ fn propose(e: Edition, store: Store, sites: [Site; 512], input: &[u8]) -> Decisi
     ensures { λ r. ⌜ ((places : ℕ) (buffer : List ℕ) → store .count ≤ places → Served e store sites places request.Propose (now (input .entry)) buffer r buffer) ⌝ }
 {
     let count = store.count;
-    let read = records::plan::read(e, count, input);
+    let read = readers::plan::read(e, count, input);
     let answer = read.answer;
     let plan = read.plan;
     if let Read::Refused(n) = answer {
@@ -255,7 +186,7 @@ fn written(e: Edition, store: Store, sites: [Site; 512], buffer: &mut [u8]) -> D
     }
     let count = store.count;
     let plan = plan_held(store);
-    match records::write::plan(e, plan, count, buffer) {
+    match writers::plan(e, plan, count, buffer) {
         Wrote::Length(n) => Decision {
             answer: Answer::Length(n),
             store,
@@ -264,54 +195,6 @@ fn written(e: Edition, store: Store, sites: [Site; 512], buffer: &mut [u8]) -> D
         },
         Wrote::Refused(n) => refuse(store, sites, n),
     }
-}
-
-// Is the depot listed?
-fn is_listed(list: ListArray, d: u8) -> bool
-    requires { ⌜ (list .count ≤ 512) × T (depotsInRange (listing list)) ⌝ }
-    ensures { λ r. ⌜ r ≡ net list .listed d ⌝ }
-{
-    sets::contains(verify::listed(list), d)
-}
-
-// W of a depot's group.
-fn litres_at(list: ListArray, plan: PlanArray, d: u8) -> u64
-    requires { ⌜ Ready list plan × T (net list .listed d) ⌝ }
-    ensures { λ r. ⌜ (r ≡ groupLitres (net list) (groupsIn list plan) (place (groupsIn list plan) d)) × (r ≤ 512 * 2 ^ 32) ⌝ }
-{
-    let n = plan.count;
-    let sets = plan.groups;
-    let groups = &sets[..n];
-    let at = verify::places(groups);
-    let w = verify::litres(list, &at);
-    w[at[d as usize] as usize]
-}
-
-// q of a depot's group.
-fn size_at(list: ListArray, plan: PlanArray, d: u8) -> u64
-    requires { ⌜ Ready list plan × T (net list .listed d) ⌝ }
-    ensures { λ r. ⌜ (r ≡ groupSize (net list) (groupsIn list plan) (place (groupsIn list plan) d)) × (r ≤ 576) ⌝ }
-{
-    let n = plan.count;
-    let sets = plan.groups;
-    let groups = &sets[..n];
-    let at = verify::places(groups);
-    let q = verify::sizes(groups);
-    q[at[d as usize] as usize]
-}
-
-// w × q of a site.
-fn whole_at(list: ListArray, plan: PlanArray, i: usize) -> u64
-    requires { ⌜ Ready list plan × (i < list .count) ⌝ }
-    ensures { λ r. ⌜ r ≡ whole (net list) (groupsIn list plan) i ⌝ }
-{
-    let n = plan.count;
-    let sets = plan.groups;
-    let groups = &sets[..n];
-    let at = verify::places(groups);
-    let q = verify::sizes(groups);
-    let s = list.sites[i];
-    verify::whole(s, &at, &q)
 }
 
 // A site's s and w × q.
@@ -362,14 +245,6 @@ fn depot(store: Store, sites: [Site; 512], d: u8) -> Decision
     }
 }
 
-// The difference of two numbers, below zero where the first is less.
-fn less(x: u64, y: u64) -> i64
-    requires { ⌜ (x < 2 ^ 52) × (y < 2 ^ 52) ⌝ }
-    ensures { λ r. ⌜ r ≡ pos x -ℤ pos y ⌝ }
-{
-    (x as i64) - (y as i64)
-}
-
 // The difference of two depots, with its divisor.
 fn difference(store: Store, sites: [Site; 512], a: u8, b: u8) -> Decision
     requires { ⌜ ((e : Edition) → corrupt (on e store sites) ≡ false) ⌝ }
@@ -380,20 +255,13 @@ fn difference(store: Store, sites: [Site; 512], a: u8, b: u8) -> Decision
     }
     let count = store.count;
     let list = ListArray { count, sites };
-    if !is_listed(list, a) {
-        return refuse(store, sites, 19);
-    }
-    if !is_listed(list, b) {
+    if !are_listed(list, a, b) {
         return refuse(store, sites, 19);
     }
     let plan = plan_held(store);
-    let wa = litres_at(list, plan, a);
-    let qa = size_at(list, plan, a);
-    let wb = litres_at(list, plan, b);
-    let qb = size_at(list, plan, b);
-    let d = less(wa * qb, wb * qa);
+    let d = difference_at(list, plan, a, b);
     Decision {
-        answer: Answer::Difference(d, qa * qb),
+        answer: Answer::Difference(d.value, d.divisor),
         store,
         sites,
         n: 0,

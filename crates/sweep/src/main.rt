@@ -10,7 +10,7 @@ use records::ListArray;
 use records::PlanArray;
 use records::Read;
 use records::Wrote;
-use verify::Verdict;
+use tables::Verdict;
 
 // What came out: lists, plans of Make that the count finds false or grouped otherwise, plans judged, those that are true, and
 // those of which the check and the count say different things.
@@ -49,7 +49,7 @@ fn write_list(list: ListArray, out: &mut [u8]) -> usize {
     if 512 < list.count {
         return 65536;
     }
-    length(records::write::list(records::edition1(), list, out))
+    length(writers::list(records::edition1(), list, out))
 }
 
 fn write_plan(list: ListArray, plan: PlanArray, out: &mut [u8]) -> usize {
@@ -59,18 +59,21 @@ fn write_plan(list: ListArray, plan: PlanArray, out: &mut [u8]) -> usize {
     if 64 < plan.count {
         return 65536;
     }
-    length(records::write::plan(records::edition1(), plan, list.count, out))
+    length(writers::plan(records::edition1(), plan, list.count, out))
 }
 
-// One plan: the check passes it exactly if the count finds it true.
-fn judged(t: Tally, list: ListArray, bytes: &[u8], plan: PlanArray) -> Tally {
+// What the check says of a plan: 1 where it passes it, 0 where not; 2 where the plan cannot be written.
+fn checked(list: ListArray, bytes: &[u8], plan: PlanArray) -> u8 {
     let mut out = [0u8; 1024];
     let n = write_plan(list, plan, &mut out);
     if 1024 < n {
-        return t;
+        return 2;
     }
-    let passed = passes(bytes, &out[..n]);
-    let found = is_true(list, plan);
+    if passes(bytes, &out[..n]) { 1 } else { 0 }
+}
+
+// One plan more.
+fn added(t: Tally, passed: bool, found: bool) -> Tally {
     Tally {
         lists: t.lists,
         unfit: t.unfit,
@@ -78,6 +81,15 @@ fn judged(t: Tally, list: ListArray, bytes: &[u8], plan: PlanArray) -> Tally {
         truths: more(t.truths, found),
         differ: more(t.differ, passed != found),
     }
+}
+
+// One plan: the check passes it exactly if the count finds it true.
+fn judged(t: Tally, list: ListArray, bytes: &[u8], plan: PlanArray) -> Tally {
+    let said = checked(list, bytes, plan);
+    if said == 2 {
+        return t;
+    }
+    added(t, said == 1, is_true(list, plan))
 }
 
 // The plan that Make writes, read again; no groups where there is none.
@@ -91,7 +103,7 @@ fn made(list: ListArray, bytes: &[u8]) -> PlanArray {
     if 1024 < n {
         return none;
     }
-    let r = records::plan::read(records::edition1(), list.count, &out[..n]);
+    let r = readers::plan::read(records::edition1(), list.count, &out[..n]);
     r.plan
 }
 
@@ -185,9 +197,12 @@ fn line(name: &[u8], n: u64) {
     io::write_all(STDOUT_FILENO, b"\n");
 }
 
-fn print(t: Tally) {
+fn print_lists(t: Tally) {
     line(b"lists ", t.lists);
     line(b"unfit plans of make ", t.unfit);
+}
+
+fn print_plans(t: Tally) {
     line(b"plans judged ", t.plans);
     line(b"true ", t.truths);
     line(b"differ ", t.differ);
@@ -195,5 +210,6 @@ fn print(t: Tally) {
 
 fn main() {
     let t = swept_random(swept_small());
-    print(t);
+    print_lists(t);
+    print_plans(t);
 }

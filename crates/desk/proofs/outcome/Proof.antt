@@ -4,7 +4,7 @@ use mir.Syntax.{w64}
 use mir.Facts.{toZ-ofZ}
 use Rattle.store.specs.Calls.{Told, told}
 use Rattle.desk.specs.Codes.{outcomeOf}
-use Rattle.engine.proofs.Signed.{read-back}
+use Rattle.signed.proofs.Signed.{read-back}
 use Rattle.desk.proofs.DeskCodes.{outcome-eq}
 use borrow.Author.Needs.{needs}
 use Rattle.desk.proofs.outcome.Statement.{statement}

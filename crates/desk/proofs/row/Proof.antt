@@ -1,6 +1,6 @@
 -- `desk::row` meets its contract. Assumes nothing.
 use mathlib.Core.Path.{_∙_}
-use Rattle.engine.proofs.Signed.{read-back}
+use Rattle.signed.proofs.Signed.{read-back}
 use Rattle.desk.proofs.DeskCodes.{zero-code, other-code}
 use borrow.Author.Needs.{needs}
 use Rattle.desk.proofs.row.Statement.{statement}

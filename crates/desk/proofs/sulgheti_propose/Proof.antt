@@ -1,7 +1,7 @@
 -- `desk::sulgheti_propose` meets its contract. Assumes nothing.
 use mathlib.Core.Path.{ap, _∙_}
 use Rattle.desk.specs.declared.Coded.{Coded}
-use Rattle.engine.proofs.Signed.{read-back}
+use Rattle.signed.proofs.Signed.{read-back}
 use Rattle.desk.proofs.DeskCodes.{did}
 use borrow.Author.Needs.{needs}
 use Rattle.desk.proofs.sulgheti_propose.Statement.{statement}

@@ -1,6 +1,6 @@
 -- `desk::sulgheti_written` meets its contract. Assumes nothing.
 use mathlib.Core.Path.{_∙_}
-use Rattle.engine.proofs.Signed.{read-back}
+use Rattle.signed.proofs.Signed.{read-back}
 use Rattle.desk.proofs.DeskCodes.{wrote-out, length-held}
 use borrow.Author.Needs.{needs}
 use Rattle.desk.proofs.sulgheti_written.Statement.{statement}

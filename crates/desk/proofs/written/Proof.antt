@@ -2,7 +2,7 @@
 use mathlib.Core.Path.{sym, ap, _∙_}
 use Rattle.store.specs.Calls.{told}
 use Rattle.desk.specs.Codes.{lengthCode}
-use Rattle.engine.proofs.Signed.{read-back}
+use Rattle.signed.proofs.Signed.{read-back}
 use borrow.Author.Needs.{needs}
 use Rattle.desk.proofs.written.Statement.{statement}
 use Rattle.desk.proofs.written.Tie as tie

@@ -1,6 +1,6 @@
 use borrow.Author.Needs.{needs}
 use mathlib.Core.Path.{_∙_}
-use Rattle.engine.proofs.Signed.{read-back}
+use Rattle.signed.proofs.Signed.{read-back}
 use Rattle.engine.proofs.Answers.{check-code}
 use Rattle.engine.proofs.sulgheti_check.Statement.{statement}
 use Rattle.engine.proofs.sulgheti_check.Tie as tie

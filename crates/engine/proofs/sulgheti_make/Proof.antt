@@ -1,7 +1,7 @@
 use borrow.Author.Needs.{needs}
 use mathlib.Core.Path.{sym, ap, _∙_}
 use Rattle.engine.specs.Codes.{wroteCode}
-use Rattle.engine.proofs.Signed.{read-back}
+use Rattle.signed.proofs.Signed.{read-back}
 use Rattle.engine.proofs.Answers.{length-fits}
 use Rattle.engine.proofs.sulgheti_make.Statement.{statement}
 use Rattle.engine.proofs.sulgheti_make.Tie as tie

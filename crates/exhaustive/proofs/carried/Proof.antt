@@ -5,25 +5,19 @@ use Rattle.exhaustive.proofs.carried.Statement.{statement}
 use Rattle.exhaustive.proofs.carried.Tie as tie
 
 abbrev Inv-loop : tie.InvT-loop
-Inv-loop carrier litres k w₀ i₀ w i = i ≤ 16
+Inv-loop k parts w₀ i₀ w i = i ≤ 16
 
 abbrev μ-loop : tie.MeasureT-loop
-μ-loop carrier litres k w₀ i₀ w i = 16 - i
+μ-loop k parts w₀ i₀ w i = 16 - i
 
 loop-holds : tie.Need-loop-holds Inv-loop μ-loop
 loop-holds c = omega arith
 
-mul-if1 : tie.Need-mul-if1 Inv-loop μ-loop
-mul-if1 c = omega arith
+mul-x : tie.Need-mul-x Inv-loop μ-loop
+mul-x c = omega arith
 
-element-copy-out-if1 : tie.Need-element-copy-out-if1 Inv-loop μ-loop
-element-copy-out-if1 c = omega arith
-
-mul-sum : tie.Need-mul-sum Inv-loop μ-loop
-mul-sum c = omega arith
-
-element-copy-out-sum : tie.Need-element-copy-out-sum Inv-loop μ-loop
-element-copy-out-sum c = omega arith
+array-copy-out-x : tie.Need-array-copy-out-x Inv-loop μ-loop
+array-copy-out-x c = omega arith
 
 sum-requires : tie.Need-sum-requires Inv-loop μ-loop
 sum-requires c κs = tt
@@ -47,10 +41,8 @@ carried-spec =
     Inv-loop
     μ-loop
     loop-holds
-    mul-if1
-    element-copy-out-if1
-    mul-sum
-    element-copy-out-sum
+    mul-x
+    array-copy-out-x
     sum-requires
     add-i
     loop-less

@@ -5,13 +5,10 @@ use Rattle.exhaustive.proofs.is_level.Statement.{statement}
 use Rattle.exhaustive.proofs.is_level.Tie as tie
 
 abbrev Inv-loop : tie.InvT-loop
-Inv-loop sets first second litres carrier whole shares all d₀ d = d ≤ 12
+Inv-loop parts sets d₀ d = d ≤ 12
 
 abbrev μ-loop : tie.MeasureT-loop
-μ-loop sets first second litres carrier whole shares all d₀ d = 12 - d
-
-listed-requires : tie.Need-listed-requires Inv-loop μ-loop
-listed-requires c κs = tt
+μ-loop parts sets d₀ d = 12 - d
 
 loop-holds : tie.Need-loop-holds Inv-loop μ-loop
 loop-holds c = omega arith
@@ -49,7 +46,6 @@ is-level-spec =
     (tie.spec
     Inv-loop
     μ-loop
-    listed-requires
     loop-holds
     single-requires
     place-requires

@@ -5,25 +5,22 @@ use Rattle.exhaustive.proofs.listed.Statement.{statement}
 use Rattle.exhaustive.proofs.listed.Tie as tie
 
 abbrev Inv-loop : tie.InvT-loop
-Inv-loop first second set₀ i₀ set i = i ≤ 16
+Inv-loop sites set₀ i₀ set i = i ≤ 16
 
 abbrev μ-loop : tie.MeasureT-loop
-μ-loop first second set₀ i₀ set i = 16 - i
+μ-loop sites set₀ i₀ set i = 16 - i
 
 loop-holds : tie.Need-loop-holds Inv-loop μ-loop
 loop-holds c = omega arith
 
-mul-set : tie.Need-mul-set Inv-loop μ-loop
-mul-set c = omega arith
+mul-depots : tie.Need-mul-depots Inv-loop μ-loop
+mul-depots c = omega arith
 
-element-copy-out-set : tie.Need-element-copy-out-set Inv-loop μ-loop
-element-copy-out-set c = omega arith
+array-copy-out-depots : tie.Need-array-copy-out-depots Inv-loop μ-loop
+array-copy-out-depots c = omega arith
 
-mul-set-2 : tie.Need-mul-set-2 Inv-loop μ-loop
-mul-set-2 c = omega arith
-
-element-copy-out-set-2 : tie.Need-element-copy-out-set-2 Inv-loop μ-loop
-element-copy-out-set-2 c = omega arith
+depots-requires : tie.Need-depots-requires Inv-loop μ-loop
+depots-requires c κs = tt
 
 add-i : tie.Need-add-i Inv-loop μ-loop
 add-i c = omega arith
@@ -44,10 +41,9 @@ listed-spec =
     Inv-loop
     μ-loop
     loop-holds
-    mul-set
-    element-copy-out-set
-    mul-set-2
-    element-copy-out-set-2
+    mul-depots
+    array-copy-out-depots
+    depots-requires
     add-i
     loop-less
     loop-again

@@ -5,34 +5,22 @@ use Rattle.exhaustive.proofs.litres_of.Statement.{statement}
 use Rattle.exhaustive.proofs.litres_of.Tie as tie
 
 abbrev Inv-loop : tie.InvT-loop
-Inv-loop first second litres set grouped w₀ i₀ w i = i ≤ 16
+Inv-loop set grouped sites w₀ i₀ w i = i ≤ 16
 
 abbrev μ-loop : tie.MeasureT-loop
-μ-loop first second litres set grouped w₀ i₀ w i = 16 - i
+μ-loop set grouped sites w₀ i₀ w i = 16 - i
 
 loop-holds : tie.Need-loop-holds Inv-loop μ-loop
 loop-holds c = omega arith
 
-mul-counts : tie.Need-mul-counts Inv-loop μ-loop
-mul-counts c = omega arith
+mul-counted : tie.Need-mul-counted Inv-loop μ-loop
+mul-counted c = omega arith
 
-element-copy-out-counts : tie.Need-element-copy-out-counts Inv-loop μ-loop
-element-copy-out-counts c = omega arith
+array-copy-out-counted : tie.Need-array-copy-out-counted Inv-loop μ-loop
+array-copy-out-counted c = omega arith
 
-mul-counts-2 : tie.Need-mul-counts-2 Inv-loop μ-loop
-mul-counts-2 c = omega arith
-
-element-copy-out-counts-2 : tie.Need-element-copy-out-counts-2 Inv-loop μ-loop
-element-copy-out-counts-2 c = omega arith
-
-counts-requires : tie.Need-counts-requires Inv-loop μ-loop
-counts-requires c κs = tt
-
-mul-sum : tie.Need-mul-sum Inv-loop μ-loop
-mul-sum c = omega arith
-
-element-copy-out-sum : tie.Need-element-copy-out-sum Inv-loop μ-loop
-element-copy-out-sum c = omega arith
+counted-requires : tie.Need-counted-requires Inv-loop μ-loop
+counted-requires c κs = tt
 
 sum-requires : tie.Need-sum-requires Inv-loop μ-loop
 sum-requires c κs = tt
@@ -56,13 +44,9 @@ litres-of-spec =
     Inv-loop
     μ-loop
     loop-holds
-    mul-counts
-    element-copy-out-counts
-    mul-counts-2
-    element-copy-out-counts-2
-    counts-requires
-    mul-sum
-    element-copy-out-sum
+    mul-counted
+    array-copy-out-counted
+    counted-requires
     sum-requires
     add-i
     loop-less

@@ -5,43 +5,19 @@ use Rattle.exhaustive.proofs.load.Statement.{statement}
 use Rattle.exhaustive.proofs.load.Tie as tie
 
 abbrev Inv-loop : tie.InvT-loop
-Inv-loop first second carrier whole shares k depot all₀ i₀ all i = i ≤ 16
+Inv-loop k depot parts all₀ i₀ all i = i ≤ 16
 
 abbrev μ-loop : tie.MeasureT-loop
-μ-loop first second carrier whole shares k depot all₀ i₀ all i = 16 - i
+μ-loop k depot parts all₀ i₀ all i = 16 - i
 
 loop-holds : tie.Need-loop-holds Inv-loop μ-loop
 loop-holds c = omega arith
 
-mul-if1 : tie.Need-mul-if1 Inv-loop μ-loop
-mul-if1 c = omega arith
-
-element-copy-out-if1 : tie.Need-element-copy-out-if1 Inv-loop μ-loop
-element-copy-out-if1 c = omega arith
-
 mul-share-of : tie.Need-mul-share-of Inv-loop μ-loop
 mul-share-of c = omega arith
 
-element-copy-out-share-of : tie.Need-element-copy-out-share-of Inv-loop μ-loop
-element-copy-out-share-of c = omega arith
-
-mul-share-of-2 : tie.Need-mul-share-of-2 Inv-loop μ-loop
-mul-share-of-2 c = omega arith
-
-element-copy-out-share-of-2 : tie.Need-element-copy-out-share-of-2 Inv-loop μ-loop
-element-copy-out-share-of-2 c = omega arith
-
-mul-share-of-3 : tie.Need-mul-share-of-3 Inv-loop μ-loop
-mul-share-of-3 c = omega arith
-
-element-copy-out-share-of-3 : tie.Need-element-copy-out-share-of-3 Inv-loop μ-loop
-element-copy-out-share-of-3 c = omega arith
-
-mul-share-of-4 : tie.Need-mul-share-of-4 Inv-loop μ-loop
-mul-share-of-4 c = omega arith
-
-element-copy-out-share-of-4 : tie.Need-element-copy-out-share-of-4 Inv-loop μ-loop
-element-copy-out-share-of-4 c = omega arith
+array-copy-out-share-of : tie.Need-array-copy-out-share-of Inv-loop μ-loop
+array-copy-out-share-of c = omega arith
 
 share-of-requires : tie.Need-share-of-requires Inv-loop μ-loop
 share-of-requires c κs = tt
@@ -68,16 +44,8 @@ load-spec =
     Inv-loop
     μ-loop
     loop-holds
-    mul-if1
-    element-copy-out-if1
     mul-share-of
-    element-copy-out-share-of
-    mul-share-of-2
-    element-copy-out-share-of-2
-    mul-share-of-3
-    element-copy-out-share-of-3
-    mul-share-of-4
-    element-copy-out-share-of-4
+    array-copy-out-share-of
     share-of-requires
     sum-requires
     add-i

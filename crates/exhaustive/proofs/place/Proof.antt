@@ -5,10 +5,10 @@ use Rattle.exhaustive.proofs.place.Statement.{statement}
 use Rattle.exhaustive.proofs.place.Tie as tie
 
 abbrev Inv-loop : tie.InvT-loop
-Inv-loop sets depot k₀ k = k ≤ 16
+Inv-loop depot sets k₀ k = k ≤ 16
 
 abbrev μ-loop : tie.MeasureT-loop
-μ-loop sets depot k₀ k = 16 - k
+μ-loop depot sets k₀ k = 16 - k
 
 loop-holds : tie.Need-loop-holds Inv-loop μ-loop
 loop-holds c = omega arith
@@ -16,8 +16,8 @@ loop-holds c = omega arith
 mul-if1 : tie.Need-mul-if1 Inv-loop μ-loop
 mul-if1 c = omega arith
 
-element-copy-out-if1 : tie.Need-element-copy-out-if1 Inv-loop μ-loop
-element-copy-out-if1 c = omega arith
+array-read-if1 : tie.Need-array-read-if1 Inv-loop μ-loop
+array-read-if1 c = omega arith
 
 returns : tie.Need-returns Inv-loop μ-loop
 returns c = tt
@@ -42,7 +42,7 @@ place-spec =
     μ-loop
     loop-holds
     mul-if1
-    element-copy-out-if1
+    array-read-if1
     returns
     add-k
     loop-less

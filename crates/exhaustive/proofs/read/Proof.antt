@@ -5,46 +5,31 @@ use Rattle.exhaustive.proofs.read.Statement.{statement}
 use Rattle.exhaustive.proofs.read.Tie as tie
 
 abbrev Inv-loop : tie.InvT-loop
-Inv-loop list first₀ second₀ litres₀ i₀ first second litres i = i ≤ 16
+Inv-loop list out₀ i₀ out i = i ≤ 16
 
 abbrev μ-loop : tie.MeasureT-loop
-μ-loop list first₀ second₀ litres₀ i₀ first second litres i = 16 - i
+μ-loop list out₀ i₀ out i = 16 - i
+
+no-site-requires : tie.Need-no-site-requires Inv-loop μ-loop
+no-site-requires c κs = tt
 
 loop-holds : tie.Need-loop-holds Inv-loop μ-loop
 loop-holds c = omega arith
 
-mul-site : tie.Need-mul-site Inv-loop μ-loop
-mul-site c = omega arith
+mul-entered : tie.Need-mul-entered Inv-loop μ-loop
+mul-entered c = omega arith
 
-element-copy-out-site : tie.Need-element-copy-out-site Inv-loop μ-loop
-element-copy-out-site c = omega arith
+element-copy-out-entered : tie.Need-element-copy-out-entered Inv-loop μ-loop
+element-copy-out-entered c = omega arith
 
-single-requires : tie.Need-single-requires Inv-loop μ-loop
-single-requires c κs = tt
+entered-requires : tie.Need-entered-requires Inv-loop μ-loop
+entered-requires c κs = tt
 
-mul-first : tie.Need-mul-first Inv-loop μ-loop
-mul-first c = omega arith
+mul-out : tie.Need-mul-out Inv-loop μ-loop
+mul-out c = omega arith
 
-array-write-first : tie.Need-array-write-first Inv-loop μ-loop
-array-write-first c = omega arith
-
-single-requires-2 : tie.Need-single-requires-2 Inv-loop μ-loop
-single-requires-2 c κs = tt
-
-mul-second : tie.Need-mul-second Inv-loop μ-loop
-mul-second c = omega arith
-
-array-write-second : tie.Need-array-write-second Inv-loop μ-loop
-array-write-second c = omega arith
-
-wide-requires : tie.Need-wide-requires Inv-loop μ-loop
-wide-requires c κs = tt
-
-mul-litres : tie.Need-mul-litres Inv-loop μ-loop
-mul-litres c = omega arith
-
-array-write-litres : tie.Need-array-write-litres Inv-loop μ-loop
-array-write-litres c = omega arith
+array-set-from-out : tie.Need-array-set-from-out Inv-loop μ-loop
+array-set-from-out c = omega arith
 
 add-i : tie.Need-add-i Inv-loop μ-loop
 add-i c = omega arith
@@ -64,18 +49,13 @@ read-spec =
     (tie.spec
     Inv-loop
     μ-loop
+    no-site-requires
     loop-holds
-    mul-site
-    element-copy-out-site
-    single-requires
-    mul-first
-    array-write-first
-    single-requires-2
-    mul-second
-    array-write-second
-    wide-requires
-    mul-litres
-    array-write-litres
+    mul-entered
+    element-copy-out-entered
+    entered-requires
+    mul-out
+    array-set-from-out
     add-i
     loop-less
     loop-again

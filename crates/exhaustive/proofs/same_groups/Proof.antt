@@ -5,10 +5,10 @@ use Rattle.exhaustive.proofs.same_groups.Statement.{statement}
 use Rattle.exhaustive.proofs.same_groups.Tie as tie
 
 abbrev Inv-loop : tie.InvT-loop
-Inv-loop sets plan k₀ k = k ≤ 16
+Inv-loop plan found k₀ k = k ≤ 16
 
 abbrev μ-loop : tie.MeasureT-loop
-μ-loop sets plan k₀ k = 16 - k
+μ-loop plan found k₀ k = 16 - k
 
 loop-holds : tie.Need-loop-holds Inv-loop μ-loop
 loop-holds c = omega arith

@@ -13,11 +13,11 @@ abbrev μ-loop : tie.MeasureT-loop
 loop-holds : tie.Need-loop-holds Inv-loop μ-loop
 loop-holds c = omega arith
 
-cast-if1 : tie.Need-cast-if1 Inv-loop μ-loop
-cast-if1 c = omega arith
+cast-sum : tie.Need-cast-sum Inv-loop μ-loop
+cast-sum c = omega arith
 
-shr-if1 : tie.Need-shr-if1 Inv-loop μ-loop
-shr-if1 c = omega arith
+shr-sum : tie.Need-shr-sum Inv-loop μ-loop
+shr-sum c = omega arith
 
 sum-requires : tie.Need-sum-requires Inv-loop μ-loop
 sum-requires c κs = tt
@@ -41,8 +41,8 @@ size-spec =
     Inv-loop
     μ-loop
     loop-holds
-    cast-if1
-    shr-if1
+    cast-sum
+    shr-sum
     sum-requires
     add-d
     loop-less

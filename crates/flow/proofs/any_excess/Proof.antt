@@ -4,7 +4,7 @@ use mathlib.Core.Logic.{inl, inr}
 use Prim.Native.Nat.{ℕ, _-_, _≤_, _<_}
 use native.Mathlib.Omega.{arith}
 use borrow.Author.Count.{below-more}
-use Rattle.flow.specs.Array.{at}
+use Rattle.residual.specs.Array.{at}
 use Rattle.flow.proofs.any_excess.Statement.{statement}
 use Rattle.flow.proofs.any_excess.Tie as tie
 

@@ -2,7 +2,7 @@
 use Prim.Native.Nat.{_-_}
 use native.Mathlib.Omega.{arith}
 use borrow.Author.Needs.{needs}
-use Rattle.flow.proofs.Seeding.{Clearing, clear-begins, clear-goes, clear-ends}
+use Rattle.residual.proofs.Seeding.{Clearing, clear-begins, clear-goes, clear-ends}
 use Rattle.flow.proofs.clear.Statement.{statement}
 use Rattle.flow.proofs.clear.Tie as tie
 

@@ -1,6 +1,6 @@
 -- `flow::discharge` meets its contract. Assumes nothing.
 use native.Mathlib.Omega.{arith}
-use Rattle.flow.proofs.Discharging.{Discharging, discharge-begins, discharge-arc, discharge-falls, discharge-goes, discharge-ends}
+use Rattle.residual.proofs.Discharging.{Discharging, discharge-begins, discharge-arc, discharge-falls, discharge-goes, discharge-ends}
 use Rattle.flow.proofs.discharge.Statement.{statement}
 use Rattle.flow.proofs.discharge.Tie as tie
 

@@ -1,6 +1,6 @@
 -- `flow::discharge_all` meets its contract. Assumes nothing.
 use native.Mathlib.Omega.{arith}
-use Rattle.flow.proofs.DischargingAll.{DischargingAll, discharge-all-begins, discharge-all-placed, discharge-all-goes, discharge-all-ends}
+use Rattle.residual.proofs.DischargingAll.{DischargingAll, discharge-all-begins, discharge-all-placed, discharge-all-goes, discharge-all-ends}
 use Rattle.flow.proofs.discharge_all.Statement.{statement}
 use Rattle.flow.proofs.discharge_all.Tie as tie
 

@@ -2,8 +2,8 @@
 use Prim.Native.Nat.{_-_}
 use native.Mathlib.Omega.{arith}
 use borrow.Author.Needs.{needs}
-use Rattle.flow.specs.Search.{Linking}
-use Rattle.flow.proofs.Linking.{link-goes, link-ends}
+use Rattle.residual.specs.Search.{Linking}
+use Rattle.residual.proofs.Linking.{link-goes, link-ends}
 use Rattle.flow.proofs.link.Statement.{statement}
 use Rattle.flow.proofs.link.Tie as tie
 

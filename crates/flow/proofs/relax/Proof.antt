@@ -1,9 +1,9 @@
 -- `flow::relax` meets its contract. Assumes nothing.
 use native.Mathlib.Omega.{arith}
 use borrow.Author.Tests.{not-true, not-false}
-use Rattle.flow.specs.Array.{totalDeficit}
-use Rattle.flow.proofs.Seeding.{cleared}
-use Rattle.flow.proofs.Relaxing.{Relaxing, relax-begins, relax-net, relax-ranked, relax-goes, relax-ends, searched, depots, excess, tested-true, tested-false}
+use Rattle.residual.specs.Array.{totalDeficit}
+use Rattle.residual.proofs.Seeding.{cleared}
+use Rattle.residual.proofs.Relaxing.{Relaxing, relax-begins, relax-net, relax-ranked, relax-goes, relax-ends, searched, depots, excess, tested-true, tested-false}
 use Rattle.flow.proofs.relax.Statement.{statement}
 use Rattle.flow.proofs.relax.Tie as tie
 

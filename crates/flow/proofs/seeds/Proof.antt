@@ -2,7 +2,7 @@
 use Prim.Native.Nat.{_-_}
 use native.Mathlib.Omega.{arith}
 use borrow.Author.Needs.{needs}
-use Rattle.flow.proofs.Seeding.{Seeding, seed-begins, seed-goes, seed-ends}
+use Rattle.residual.proofs.Seeding.{Seeding, seed-begins, seed-goes, seed-ends}
 use Rattle.flow.proofs.seeds.Statement.{statement}
 use Rattle.flow.proofs.seeds.Tie as tie
 

@@ -1,7 +1,7 @@
 use borrow.Author.Needs.{needs}
 use mathlib.Core.Path.{sym, ap, _∙_}
 use mathlib.Core.List.{[]}
-use Rattle.verify.specs.Verdict.{verdict}
+use Rattle.tables.specs.Verdict.{verdict}
 use Rattle.judge.specs.Check.{handedOn}
 use Rattle.judge.proofs.Judged.{list-refuses, few-sites, plan-refuses, counted, values-judge}
 use Rattle.judge.proofs.check_by.Statement.{statement}

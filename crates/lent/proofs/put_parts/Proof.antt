@@ -5,7 +5,7 @@ use mathlib.Core.List.{flatMap}
 use Rattle.records.specs.Bytes.{le}
 use Rattle.records.proofs.Bytes.{length-le}
 use Rattle.records.proofs.Buffers.{front-none, front-next, front-lent, length-flat}
-use Rattle.store.proofs.Edition1Widths.{shares-fit}
+use Rattle.edition1.proofs.Edition1Widths.{shares-fit}
 use Rattle.lent.proofs.RoundTrip.{store-put}
 use Rattle.lent.proofs.Widths.{sets-fit}
 use borrow.Author.Needs.{needs}

@@ -9,7 +9,7 @@ use Rattle.records.specs.Bytes.{le}
 use Rattle.records.specs.Write.{onto}
 use Rattle.records.proofs.Bytes.{length-le}
 use Rattle.records.proofs.Buffers.{run-step}
-use Rattle.store.proofs.Edition1Widths.{shares-fit}
+use Rattle.edition1.proofs.Edition1Widths.{shares-fit}
 use Rattle.lent.proofs.put_shares.Statement.{statement}
 use Rattle.lent.proofs.put_shares.Tie as tie
 

@@ -2,8 +2,8 @@
 use mathlib.Core.Path.{refl}
 use Prim.Native.Nat.{_-_, _<_, _≤_}
 use native.Mathlib.Omega.{arith}
-use Rattle.maker.specs.Arrays.{Filling}
-use Rattle.maker.proofs.Filled.{fill-ends, fill-goes}
+use Rattle.attempt.specs.Arrays.{Filling}
+use Rattle.attempt.proofs.Filled.{fill-ends, fill-goes}
 use Rattle.maker.proofs.fill.Statement.{statement}
 use Rattle.maker.proofs.fill.Tie as tie
 

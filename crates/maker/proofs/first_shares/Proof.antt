@@ -1,7 +1,7 @@
 -- `maker::first_shares` meets its contract. Assumes nothing.
 use Prim.Native.Nat.{_-_, _≤_}
 use native.Mathlib.Omega.{arith}
-use Rattle.maker.proofs.Filled.{Copying, copy-begins, copy-goes, copy-ends}
+use Rattle.attempt.proofs.Filled.{Copying, copy-begins, copy-goes, copy-ends}
 use Rattle.maker.proofs.first_shares.Statement.{statement}
 use Rattle.maker.proofs.first_shares.Tie as tie
 

@@ -2,8 +2,8 @@
 use mathlib.Core.Path.{refl}
 use Prim.Native.Nat.{_-_, _<_, _≤_, _^_}
 use native.Mathlib.Omega.{arith}
-use Rattle.maker.specs.Arrays.{Named}
-use Rattle.maker.proofs.Filled.{name-begins, name-ends, name-goes}
+use Rattle.attempt.specs.Arrays.{Named}
+use Rattle.attempt.proofs.Filled.{name-begins, name-ends, name-goes}
 use Rattle.maker.proofs.listed.Statement.{statement}
 use Rattle.maker.proofs.listed.Tie as tie
 

@@ -1,7 +1,7 @@
 -- `maker::size` meets its contract. Assumes nothing.
 use mathlib.Core.Path.{_∙_}
 use borrow.Author.Needs.{needs}
-use Rattle.maker.proofs.Sizing.{size-is}
+use Rattle.attempt.proofs.Sizing.{size-is}
 use Rattle.maker.proofs.size.Statement.{statement}
 use Rattle.maker.proofs.size.Tie as tie
 

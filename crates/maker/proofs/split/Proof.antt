@@ -1,8 +1,8 @@
 -- `maker::split` meets its contract. Assumes nothing.
 use native.Mathlib.Omega.{arith}
 use borrow.Author.Needs.{needs}
-use Rattle.maker.proofs.Making.{Loop}
-use Rattle.maker.proofs.Steps.{finish-less, here, left, making-begins, making-ends, room, turn-finish, turn-less, turn-low, turn-split, turn-stage}
+use Rattle.attempt.proofs.Making.{Loop}
+use Rattle.attempt.proofs.Steps.{finish-less, here, left, making-begins, making-ends, room, turn-finish, turn-less, turn-low, turn-split, turn-stage}
 use Rattle.maker.proofs.split.Statement.{statement}
 use Rattle.maker.proofs.split.Tie as tie
 

@@ -1,7 +1,7 @@
 -- `plan::site_line` meets its contract. Assumes nothing.
 use native.Mathlib.Omega.{arith}
 use denote.Ref.{now}
-use Rattle.verify.proofs.Shares.{depots-small, asked}
+use Rattle.tables.proofs.Shares.{depots-small, asked}
 use Rattle.plan.proofs.Lines.{share-≤, site-line-is}
 use borrow.Author.Needs.{needs}
 use Rattle.plan.proofs.site_line.Statement.{statement}

@@ -3,7 +3,7 @@ use Prim.Native.Nat.{_-_, _≤_}
 use borrow.Author.Needs.{needs}
 use denote.Ref.{now}
 use mathlib.Core.Path.{sym, _∙_}
-use Rattle.verify.specs.Tables.{net}
+use Rattle.tables.specs.Tables.{net}
 use Rattle.report.proofs.Lines.{low-place}
 use Rattle.report.proofs.print_lines.Statement.{statement}
 use Rattle.report.proofs.print_lines.Tie as tie

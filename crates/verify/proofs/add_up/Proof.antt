@@ -4,8 +4,8 @@ use Prim.Native.Nat.{_-_, _≤_, _<_}
 use native.Mathlib.Omega.{arith}
 use lib.ListN.{length, length-map}
 use Rattle.sets.specs.Set.{setOf}
-use Rattle.verify.proofs.Sites.{site-small, named, named-start, named-more, named-end}
-use Rattle.verify.proofs.Pass.{Pass, pass-start, table-fits, no-group, broken-here, pass-more, pass-end, pass-broken}
+use Rattle.tables.proofs.Sites.{site-small, named, named-start, named-more, named-end}
+use Rattle.tables.proofs.Pass.{Pass, pass-start, table-fits, no-group, broken-here, pass-more, pass-end, pass-broken}
 use borrow.Author.Needs.{needs}
 use Rattle.verify.proofs.add_up.Statement.{statement}
 use Rattle.verify.proofs.add_up.Tie as tie

@@ -3,10 +3,10 @@ use mathlib.Core.Path.{_≡_, refl, sym, _∙_}
 use native.Mathlib.Omega.{arith}
 use lib.ListN.{length}
 use borrow.Author.Needs.{needs}
-use Rattle.verify.specs.Tables.{net, groupsIn}
-use Rattle.verify.proofs.Verdicts.{form-refused, row-15, row-16, plan-passes, small, kept-parts, kept-levels}
-use Rattle.verify.proofs.Shares.{groups-count}
-use Rattle.verify.proofs.Totals.{listed-place}
+use Rattle.tables.specs.Tables.{net, groupsIn}
+use Rattle.tables.proofs.Verdicts.{form-refused, row-15, row-16, plan-passes, small, kept-parts, kept-levels}
+use Rattle.tables.proofs.Shares.{groups-count}
+use Rattle.tables.proofs.Totals.{listed-place}
 use Rattle.verify.proofs.plan_row.Statement.{statement}
 use Rattle.verify.proofs.plan_row.Tie as tie
 

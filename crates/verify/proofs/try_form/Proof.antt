@@ -7,7 +7,7 @@ use lib.Seq.{length-take-le}
 use borrow.Author.Needs.{length-unmapped, needs}
 use mir.Syntax.{w64}
 use mir.Val.{Fits}
-use Rattle.verify.proofs.Verdicts.{tables-of, formed}
+use Rattle.tables.proofs.Verdicts.{tables-of, formed}
 use Rattle.verify.proofs.try_form.Statement.{statement}
 use Rattle.verify.proofs.try_form.Tie as tie
 

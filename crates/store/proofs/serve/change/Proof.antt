@@ -1,8 +1,8 @@
 -- `store::serve::change` meets its contract. Assumes nothing.
 use native.Mathlib.Omega.{arith}
 use Rattle.records.specs.Format.{edition1}
-use Rattle.store.specs.Serve.{on}
-use Rattle.store.proofs.Intact.{intact→}
+use Rattle.held_state.specs.Held.{on}
+use Rattle.held_state.proofs.Intact.{intact→}
 use Rattle.store.proofs.ServeCalls.{change-litres, change-beyond, change-made}
 use borrow.Author.Needs.{needs}
 use Rattle.store.proofs.serve.change.Statement.{statement}

@@ -12,8 +12,7 @@ use Rattle.records.specs.declared.PlanArray.{PlanArray}
 use Rattle.records.specs.Format.{edition1}
 use Rattle.store.specs.declared.Answer.the-variants as of
 use Rattle.store.specs.declared.Request.the-variants.{Depot}
-use Rattle.store.specs.State.{listOf}
-use Rattle.store.specs.Serve.{on}
+use Rattle.held_state.specs.Held.{listOf, on}
 use Rattle.store.proofs.ServeCalls.{wants}
 use Rattle.store.proofs.ServeQuestions.{ready-held, in-range, depot-unlisted, depot-told}
 use borrow.Author.Needs.{needs}

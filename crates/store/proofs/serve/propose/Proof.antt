@@ -5,10 +5,11 @@ use Rattle.records.specs.declared.PlanRead.{PlanRead}
 use Rattle.records.specs.Values.{Plan}
 use Rattle.records.specs.Format.{readPlan}
 use Rattle.records.proofs.Answers.{plan-counted, plan-refused}
-use Rattle.verify.specs.Verdict.{verdict}
+use Rattle.tables.specs.Verdict.{verdict}
 use Rattle.store.specs.State.{modelOf, planRow}
-use Rattle.store.specs.Serve.{on, takes}
-use Rattle.store.proofs.Intact.{intact→}
+use Rattle.held_state.specs.Held.{on}
+use Rattle.store.specs.Serve.{takes}
+use Rattle.held_state.proofs.Intact.{intact→}
 use Rattle.store.proofs.ServeCalls.{plan-few, plan-in, plan-counted-in, verdict-refused, verdict-passes, propose-layout, propose-refused, propose-passes}
 use borrow.Author.Needs.{needs}
 use Rattle.store.proofs.serve.propose.Statement.{statement}

@@ -12,9 +12,8 @@ use Rattle.records.specs.declared.PlanArray.{PlanArray}
 use Rattle.records.specs.Format.{edition1}
 use Rattle.store.specs.declared.Answer.the-variants as of
 use Rattle.store.specs.declared.Request.the-variants.{Share}
-use Rattle.store.specs.State.{listOf}
-use Rattle.store.specs.Serve.{on}
-use Rattle.store.proofs.Intact.{intact→}
+use Rattle.held_state.specs.Held.{listOf, on}
+use Rattle.held_state.proofs.Intact.{intact→}
 use Rattle.store.proofs.ServeCalls.{wants}
 use Rattle.store.proofs.ServeQuestions.{ready-held, share-beyond, share-told}
 use borrow.Author.Needs.{needs}

@@ -4,8 +4,8 @@ use Rattle.sets.proofs.Test.{passes}
 use Prim.Native.Nat.{_≤_}
 use borrow.Author.Tests.{not-true, not-false}
 use Rattle.store.specs.declared.Request.the-variants.{Written}
-use Rattle.store.specs.Serve.{on}
-use Rattle.store.proofs.Intact.{intact→}
+use Rattle.held_state.specs.Held.{on}
+use Rattle.held_state.proofs.Intact.{intact→}
 use Rattle.store.proofs.ServeCalls.{wants, written-short, written-out}
 use borrow.Author.Needs.{needs}
 use Rattle.store.proofs.serve.written.Statement.{statement}

@@ -1,0 +1,16 @@
+pub mod Laws
+pub mod Laid
+pub mod Laying
+pub mod AllLaid
+pub mod Aiming
+pub mod Sizing
+pub mod Gathering
+pub mod Attempting
+pub mod Held
+pub mod Built
+pub mod Making
+pub mod Finishing
+pub mod Building
+pub mod Stacking
+pub mod Steps
+pub mod Filled

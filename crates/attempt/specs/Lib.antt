@@ -1,0 +1,4 @@
+pub mod Outcome
+pub mod Lay
+pub mod Attempt
+pub mod Arrays

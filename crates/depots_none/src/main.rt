@@ -1,4 +1,0 @@
-// The first program, with no input at all.
-fn main() {
-    report::run();
-}

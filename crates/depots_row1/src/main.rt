@@ -1,4 +1,0 @@
-// The first program, with a list whose head mark is wrong.
-fn main() {
-    report::run();
-}

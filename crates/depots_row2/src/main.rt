@@ -1,4 +1,0 @@
-// The first program, with a list of 513 sites.
-fn main() {
-    report::run();
-}

@@ -1,4 +1,0 @@
-// The first program, with a list that is cut off.
-fn main() {
-    report::run();
-}

@@ -1,4 +1,0 @@
-// The first program, with a list with a depot above 63.
-fn main() {
-    report::run();
-}

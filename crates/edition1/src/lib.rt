@@ -1,0 +1,225 @@
+// The entries of edition 1 of document 01.
+use held_state::Store;
+use records::edition1;
+use store::Answer;
+use store::Request;
+use store::serve::serve;
+use table::Site1;
+use table::values::held_on1;
+use table::values::narrow_first;
+use table::values::store_on1;
+use table::widen_all;
+ghost use mathlib.Core.Path.{_≡_};
+ghost use Prim.Native.Nat.{ℕ, _<_, _^_, min};
+ghost use lib.ListN.{getD, take, drop};
+ghost use Rattle.store.specs.State.{step};
+ghost use Rattle.edition1.specs.Edition1.{storeOf1, view1, requestOf1, callOf1, fresh1, turned1, Served1};
+
+// Edition 1: the store by its widths, a share in 32 bits.
+pub struct Store1 {
+    pub count: usize,
+    pub held: bool,
+    pub grouped: usize,
+    pub groups: [u64; 64],
+    pub shares: [u32; 512],
+}
+
+// "Litres in a change or an added site are a 16-bit figure."
+pub enum Request1 {
+    Load,
+    Change(usize, u16),
+    Add(u8, u8, u16),
+    Propose,
+    Share(usize),
+    Depot(u8),
+    Difference(u8, u8),
+    Written,
+}
+
+pub struct Decision1 {
+    pub answer: Answer,
+    pub store: Store1,
+    pub sites: [Site1; 512],
+    pub n: usize,
+}
+
+// What a call of edition 1 gives back.
+pub struct Out1 {
+    pub answer: Answer,
+    pub store: Store1,
+}
+
+// What a call gives back to a program that owns its table.
+pub struct OutOn1 {
+    pub answer: Answer,
+    pub store: Store1,
+    pub table: [Site1; 600],
+}
+
+// "A fresh desk has no sites, no plan, and 512 places for shares, all zero."
+pub fn fresh1() -> Store1
+    ensures { λ r. ⌜ r ≡ fresh1 ⌝ }
+{
+    Store1 {
+        count: 0,
+        held: false,
+        grouped: 0,
+        groups: [0; 64],
+        shares: [0; 512],
+    }
+}
+
+// The shares wide.
+fn widen_shares(shares: [u32; 512]) -> [u64; 512]
+    ensures { λ r. ⌜ (r ≡ shares) × ((i : ℕ) → getD r i 0 < 2 ^ 32) ⌝ }
+{
+    let mut a = [0u64; 512];
+    let mut i: usize = 0;
+    while i < 512 {
+        a[i] = shares[i] as u64;
+        i += 1;
+    }
+    a
+}
+
+// The shares narrow, if they fit: whether they do follows from the step, and not from their type.
+fn narrow_shares(shares: [u64; 512]) -> [u32; 512]
+    ensures { λ r. ⌜ (((i : ℕ) → getD shares i 0 < 2 ^ 32) → r ≡ shares) ⌝ }
+{
+    let mut a = [0u32; 512];
+    let mut i: usize = 0;
+    while i < 512 {
+        a[i] = (shares[i] % 4294967296) as u32;
+        i += 1;
+    }
+    a
+}
+
+// The store by the widths of the definition; its shares have 32 bits.
+fn widen_store(s: Store1) -> Store
+    ensures { λ r. ⌜ (r ≡ storeOf1 s) × ((i : ℕ) → getD (r .shares) i 0 < 2 ^ 32) ⌝ }
+{
+    let groups = s.groups;
+    let narrow = s.shares;
+    let shares = widen_shares(narrow);
+    Store {
+        count: s.count,
+        held: s.held,
+        grouped: s.grouped,
+        groups,
+        shares,
+    }
+}
+
+// The store by the widths of edition 1, if its shares fit.
+fn narrow_store(s: Store) -> Store1
+    ensures { λ r. ⌜ (((i : ℕ) → getD (s .shares) i 0 < 2 ^ 32) → storeOf1 r ≡ s) ⌝ }
+{
+    let groups = s.groups;
+    let wide = s.shares;
+    let shares = narrow_shares(wide);
+    Store1 {
+        count: s.count,
+        held: s.held,
+        grouped: s.grouped,
+        groups,
+        shares,
+    }
+}
+
+// The request; the litres that it names have 16 bits.
+fn widen_request(q: Request1) -> Request
+    ensures { λ r. ⌜ (r ≡ requestOf1 q) × (((i w : ℕ) → r ≡ Request.Change i w → w < 2 ^ 16) × ((f s w : ℕ) → r ≡ Request.Add f s w → w < 2 ^ 16)) ⌝ }
+{
+    match q {
+        Request1::Load => Request::Load,
+        Request1::Change(i, w) => Request::Change(i, w as u32),
+        Request1::Add(f, s, w) => Request::Add(f, s, w as u32),
+        Request1::Propose => Request::Propose,
+        Request1::Share(i) => Request::Share(i),
+        Request1::Depot(d) => Request::Depot(d),
+        Request1::Difference(a, b) => Request::Difference(a, b),
+        Request1::Written => Request::Written,
+    }
+}
+
+// What a call does, on values of edition 1's widths: widened, decided and narrowed.
+pub fn serve1(
+    store: Store1,
+    sites: [Site1; 512],
+    places: usize,
+    request: Request1,
+    input: &[u8],
+    buffer: &mut [u8],
+) -> Decision1
+    ensures { λ r. ⌜ Served1 store sites places request (now (input .entry)) (now (buffer .entry)) r (now (buffer .exit)) ⌝ }
+{
+    let wide = widen_store(store);
+    let all = widen_all(sites);
+    let asked = widen_request(request);
+    let d = serve(edition1(), wide, all, places, asked, input, buffer);
+    let answer = d.answer;
+    let n = d.n;
+    let held = d.store;
+    let left = d.sites;
+    let store = narrow_store(held);
+    let sites = narrow_first(left, n);
+    Decision1 {
+        answer,
+        store,
+        sites,
+        n,
+    }
+}
+
+// The places of the array that a table of so many has.
+fn places_on1(places: usize) -> usize
+    ensures { λ r. ⌜ r ≡ min places 600 ⌝ }
+{
+    if places < 600 { places } else { 600 }
+}
+
+// A call for a program that owns its table: the table is the first so many places of the array, at most all 600, and those behind keep their content.
+pub fn call_on1(
+    store: Store1,
+    table: [Site1; 600],
+    places: usize,
+    request: Request1,
+    input: &[u8],
+    buffer: &mut [u8],
+) -> OutOn1
+    ensures { λ r. ⌜ (turned1 (record { answer = r .answer; store = r .store }) (take places (r .table)) (now (buffer .exit)) ≡ step (view1 store (take places table)) (callOf1 request (now (input .entry)) (now (buffer .entry)))) × (drop places (r .table) ≡ drop places table) ⌝ }
+{
+    let few = places_on1(places);
+    let sites = held_on1(table, few);
+    let d = serve1(store, sites, few, request, input, buffer);
+    let answer = d.answer;
+    let n = d.n;
+    let store = d.store;
+    let left = d.sites;
+    let table = store_on1(table, left, n);
+    OutOn1 {
+        answer,
+        store,
+        table,
+    }
+}
+
+// A call, over a lent table. Three calls and no branch.
+pub fn call1(
+    store: Store1,
+    table: &mut [Site1],
+    request: Request1,
+    input: &[u8],
+    buffer: &mut [u8],
+) -> Out1
+    ensures { λ r. ⌜ turned1 r (now (table .exit)) (now (buffer .exit)) ≡ step (view1 store (now (table .entry))) (callOf1 request (now (input .entry)) (now (buffer .entry))) ⌝ }
+{
+    let sites = table::held1(table);
+    let d = serve1(store, sites, table.len(), request, input, buffer);
+    table::store1(table, d.sites, d.n);
+    Out1 {
+        answer: d.answer,
+        store: d.store,
+    }
+}

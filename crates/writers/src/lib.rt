@@ -1,0 +1,136 @@
+// The writers of a list and of a plan.
+use density::Site;
+use records::Edition;
+use records::ListArray;
+use records::PlanArray;
+use records::Wrote;
+use records::number;
+ghost use mathlib.Core.Path.{_≡_};
+ghost use mathlib.Core.List.{flatMap};
+ghost use Prim.Native.Nat.{_≤_, _+_, _*_};
+ghost use lib.ListN.{length, take};
+ghost use Rattle.records.specs.Bytes.{le};
+ghost use Rattle.records.specs.Values.{listing, planIn};
+ghost use Rattle.records.specs.Write.{place, onto, markBytes, siteBytes, listBytes, planBytes, Written};
+ghost use Rattle.records.specs.Format.{siteSize};
+
+// Puts the `w` low bytes of `x` at a place of `out`.
+pub fn number_at(out: &mut [u8], at: usize, w: usize, x: u64)
+    requires { ⌜ at + w ≤ length (now out) ⌝ }
+    ensures { λ _. ⌜ now (out .exit) ≡ place at (le w x) (now (out .entry)) ⌝ }
+{
+    number::put(&mut out[at..at + w], x);
+}
+
+// Puts a record of a mark and a number of `w` bytes at a place of `out`.
+pub fn record_at(out: &mut [u8], at: usize, mark: u64, w: usize, x: u64)
+    requires { ⌜ at + (2 + w) ≤ length (now out) ⌝ }
+    ensures { λ _. ⌜ now (out .exit) ≡ place at (markBytes mark w x) (now (out .entry)) ⌝ }
+{
+    number_at(out, at, 2, mark);
+    number_at(out, at + 2, w, x);
+}
+
+// Writes records of a mark and a number of `w` bytes, one for each number.
+pub fn records(out: &mut [u8], mark: u64, w: usize, xs: &[u64])
+    requires { ⌜ (2 + w) * length (now xs) ≤ length (now out) ⌝ }
+    ensures { λ _. ⌜ now (out .exit) ≡ onto (flatMap (markBytes mark w) (now (xs .entry))) (now (out .entry)) ⌝ }
+{
+    let mut i = 0;
+    let mut at = 0;
+    while i < xs.len() {
+        record_at(out, at, mark, w, xs[i]);
+        at += 2 + w;
+        i += 1;
+    }
+}
+
+// Writes a plan of `g` groups and `n` shares at the front of `out`; the shares go into what remains of it behind the groups.
+fn plan_of(
+    e: Edition,
+    groups: [u64; 64],
+    g: usize,
+    shares: [u64; 512],
+    n: usize,
+    out: &mut [u8],
+) -> Wrote
+    requires { ⌜ (e .share ≤ 8) × (g ≤ 64) × (n ≤ 512) ⌝ }
+    ensures { λ r. ⌜ Written (planBytes e (record { groups = take g groups; shares = take n shares })) (now (out .entry)) r (now (out .exit)) ⌝ }
+{
+    let w = e.share;
+    let at = 5 + 10 * g;
+    let end = at + (2 + w) * n;
+    if out.len() < end {
+        return Wrote::Refused(20);
+    }
+    number_at(out, 0, 2, e.mark.plan);
+    number_at(out, 2, 1, g as u64);
+    number_at(out, 3, 2, n as u64);
+    records(&mut out[5..], e.mark.group, 8, &groups[..g]);
+    records(&mut out[at..], e.mark.share, w, &shares[..n]);
+    Wrote::Length(end)
+}
+
+// Writes a plan for `n` sites at the front of `out`.
+pub fn plan(e: Edition, p: PlanArray, n: usize, out: &mut [u8]) -> Wrote
+    requires { ⌜ (e .share ≤ 8) × (p .count ≤ 64) × (n ≤ 512) ⌝ }
+    ensures { λ r. ⌜ Written (planBytes e (planIn p n)) (now (out .entry)) r (now (out .exit)) ⌝ }
+{
+    let groups = p.groups;
+    let shares = p.shares;
+    plan_of(e, groups, p.count, shares, n, out)
+}
+
+// Puts a site's record at a place of `out`.
+pub fn site_at(e: Edition, out: &mut [u8], at: usize, x: Site)
+    requires { ⌜ at + siteSize e ≤ length (now out) ⌝ }
+    ensures { λ _. ⌜ now (out .exit) ≡ place at (siteBytes e x) (now (out .entry)) ⌝ }
+{
+    let w = e.litres;
+    number_at(out, at, 2, e.mark.site);
+    number_at(out, at + 2, 1, x.first as u64);
+    number_at(out, at + 3, 1, x.second as u64);
+    number_at(out, at + 4, w, x.litres as u64);
+}
+
+// Writes the records of the first `n` sites.
+pub fn sites(e: Edition, table: [Site; 512], n: usize, out: &mut [u8])
+    requires { ⌜ (e .litres ≤ 8) × (n ≤ 512) × (siteSize e * n ≤ length (now out)) ⌝ }
+    ensures { λ _. ⌜ now (out .exit) ≡ onto (flatMap (siteBytes e) (take n table)) (now (out .entry)) ⌝ }
+{
+    let size = 4 + e.litres;
+    let mut i = 0;
+    let mut at = 0;
+    while i < n {
+        let x = table[i];
+        site_at(e, out, at, x);
+        at += size;
+        i += 1;
+    }
+}
+
+// Writes a list of the first `n` sites at the front of `out`.
+fn list_of(e: Edition, table: [Site; 512], n: usize, out: &mut [u8]) -> Wrote
+    requires { ⌜ (e .litres ≤ 8) × (n ≤ 512) ⌝ }
+    ensures { λ r. ⌜ Written (listBytes e (record { sites = take n table })) (now (out .entry)) r (now (out .exit)) ⌝ }
+{
+    let w = e.litres;
+    let size = 4 + w;
+    let total = 4 + size * n;
+    if out.len() < total {
+        return Wrote::Refused(20);
+    }
+    number_at(out, 0, 2, e.mark.list);
+    number_at(out, 2, 2, n as u64);
+    sites(e, table, n, &mut out[4..]);
+    Wrote::Length(total)
+}
+
+// Writes a list at the front of `out`.
+pub fn list(e: Edition, l: ListArray, out: &mut [u8]) -> Wrote
+    requires { ⌜ (e .litres ≤ 8) × (l .count ≤ 512) ⌝ }
+    ensures { λ r. ⌜ Written (listBytes e (listing l)) (now (out .entry)) r (now (out .exit)) ⌝ }
+{
+    let table = l.sites;
+    list_of(e, table, l.count, out)
+}
