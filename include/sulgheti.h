@@ -3,7 +3,9 @@
  *
  * Every pointer must be valid for its length and must not be NULL, also where the length is 0.
  * What a function writes must not overlap anything else that it is given. The functions keep nothing
- * between calls, allocate nothing and may be called from several threads at once.
+ * between calls, allocate nothing and may be called from several threads at once. On one desk only
+ * questions may: a load, a change, an added site or a proposal that succeeds writes store and table,
+ * a question and a refused call write neither.
  *
  * A refusal is the negated number of the first row of document 01's table that applies, and
  * SULGHETI_CORRUPT for row 0; then no byte that was lent is changed. */

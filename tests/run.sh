@@ -35,11 +35,11 @@ bash tests/depots.sh
 bash tests/plan.sh
 
 # the C programs
-for name in check_t desk_t; do
+for name in check_t desk_t read_only_t; do
     "${CC:-cc}" -std=c99 -Wall -Wextra -Werror -O2 -Iinclude "tests/c/$name.c" "$SULGHETI_LIB/libengine.a" "$SULGHETI_LIB/libdesk.a" -o "target/$name"
     "target/$name" || { echo "$name: failed, status $?"; exit 1; }
 done
-echo "check_t, desk_t: T's plan passes, and is held, from C"
+echo "check_t, desk_t, read_only_t: T's plan passes, is held, and is asked for in memory that cannot be written, from C"
 
 # the wrapper's example, then the cases
 export CARGO_TARGET_DIR=$PWD/target/cargo

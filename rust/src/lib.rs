@@ -146,7 +146,7 @@ impl Desk {
         Desk { store, table: vec![0; PLACE_BYTES * places] }
     }
 
-    /// A desk of bytes that were kept, of any content: every call tries row 0.
+    /// A desk of bytes that were kept, of any content: every call but a load tries row 0, and with a store of another length every call is refused by it.
     pub fn from_bytes(store: Vec<u8>, table: Vec<u8>) -> Desk {
         Desk { store, table }
     }
@@ -244,7 +244,7 @@ pub struct Row(pub u8);
 
 /// What each row means and what to do about it, by number.
 const TEXTS: [(&str, &str); 21] = [
-    ("the desk or its table does not hold what a desk can hold", "load the list again"),
+    ("the desk or its table does not hold what a desk can hold", "begin with a fresh desk and load the list again"),
     ("the list has under 4 bytes or does not begin with 4C 53", "give the bytes of a list, from its first byte"),
     ("the list has more than 512 sites, or more than the table has places", "split the list, or lend a longer table"),
     ("the list's length is not 4 + 6 x sites", "see that the list is whole and that nothing follows it"),

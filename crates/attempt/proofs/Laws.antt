@@ -6,13 +6,11 @@ use Prim.Native.Nat.{_*_, _+_, _<_, _^_, _≤_, suc, zero, ℕ}
 use native.Mathlib.Nat.{mul-le-mul-left}
 use native.Mathlib.Omega.{arith}
 use lib.Dec.{eqb}
-use lib.ListN.{length, replicate}
+use lib.ListN.{replicate}
 use Rattle.sets.specs.Sum.{sum, when}
-use Rattle.sets.proofs.Sum.{sum-add, sum-split, sum-term}
+use Rattle.sets.proofs.Sum.{sum-add, sum-split}
 use Rattle.sets.proofs.Test.{fails, is-false, is-true, passes, when-≤}
-use Rattle.residual.specs.Array.{arcLoad, at, totalLoad}
-use Rattle.residual.proofs.Laws.{sum-set}
-use Rattle.attempt.specs.Lay.{raise}
+use Rattle.residual.specs.Array.{arcLoad, at}
 
 pub not-both : (t : Bool) → t ≡ true → t ≡ false → ⊥
 not-both t a b = fails t b (passes t a)
@@ -28,19 +26,8 @@ pub both-false : (a b : Bool) → b ≡ false → (a && b) ≡ false
 both-false true b e = e
 both-false false b e = refl
 
--- one depot has no more than all
-pub one : (load : List ℕ) (i : ℕ) → i < 64 → at load i ≤ totalLoad load
-one load i h = sum-term (at load) i 64 h
-
-pub raise-total : (load : List ℕ) (i m : ℕ) → length load ≡ 64 → i < 64 → totalLoad (raise load i m) ≡ totalLoad load + m
-raise-total load i m e h = omega (arith, sum-set (λ d x. x) load i (at load i + m) 64 (omega arith) h)
-
 pub mul-when : (q x : ℕ) (t : Bool) → q * when t x ≤ q * x
 mul-when q x t = mul-le-mul-left q (when-≤ t x)
-
--- what a test leaves of t
-pub part-most : (b : Bool) (t : ℕ) {f : ℕ} → f ≡ when b t → f ≤ t
-part-most b t e = rw e (when-≤ b t)
 
 -- the litres that are brought fit where all fit
 pub brought-fits : (n q x : ℕ) (t : Bool) {w : ℕ} → w ≡ when t x → n + q * x < 2 ^ 64 → n + q * w < 2 ^ 64

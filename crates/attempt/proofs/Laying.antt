@@ -17,9 +17,11 @@ use Rattle.sets.proofs.Test.{when-zero, when-≤}
 use Rattle.density.specs.Network.{counts}
 use Rattle.residual.specs.Array.{at, totalLoad}
 use Rattle.residual.proofs.Laws.{below?, stored}
-use Rattle.attempt.specs.Lay.{Laying, Ready, SiteLaid, raise}
+use Rattle.lay_on.specs.Raise.{raise}
+use Rattle.lay_on.proofs.Laws.{raise-total}
+use Rattle.attempt.specs.Lay.{Laying, Ready, SiteLaid}
 use Rattle.attempt.specs.Outcome.{brings, siteIn}
-use Rattle.attempt.proofs.Laws.{both-true, not-both, raise-total}
+use Rattle.attempt.proofs.Laws.{both-true, not-both}
 
 held-not : (ends : List ℕ) (d j x : ℕ) → (at ends j ≡ d → ⊥) → when (eqb (at ends j) d) x ≡ 0
 held-not ends d j x e = rw (ne-eqb (at ends j) d e)

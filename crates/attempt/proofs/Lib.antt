@@ -4,7 +4,6 @@ pub mod Laying
 pub mod AllLaid
 pub mod Aiming
 pub mod Sizing
-pub mod Gathering
 pub mod Attempting
 pub mod Held
 pub mod Built
@@ -13,4 +12,3 @@ pub mod Finishing
 pub mod Building
 pub mod Stacking
 pub mod Steps
-pub mod Filled

@@ -1,13 +1,12 @@
--- The maker's arrays, the list that fills them, and the network that they hold.
+-- The maker's arrays, and the network that they hold.
 use mathlib.Core.Path.{_≡_}
 use mathlib.Core.Bool.{Bool, true, false}
 use mathlib.Core.List.{List}
 use Prim.Native.Nat.{ℕ, _+_, _*_, _≤_, _<_, _^_}
-use lib.ListN.{length, getD, take}
-use Rattle.sets.specs.Sum.{sum, any}
+use lib.ListN.{length, take}
+use Rattle.sets.specs.Sum.{sum}
 use Rattle.sets.specs.Set.{has}
-use Rattle.density.specs.declared.Site.{Site}
-use Rattle.density.specs.Network.{Network, Valid, noSite, names}
+use Rattle.density.specs.Network.{Network, Valid}
 use Rattle.density.specs.Plan.{TruePlan}
 use Rattle.density.proofs.Level.{end}
 use Rattle.residual.specs.Array.{at}
@@ -18,25 +17,6 @@ use Rattle.attempt.specs.Lay.{Listed}
 abbrev pub arc : Bool → ℕ → ℕ
 arc true i = i
 arc false i = 512 + i
-
--- the depots of the first n sites of the table are below 64
-abbrev pub InRange : List Site → ℕ → Type 0
-InRange table n = (k : ℕ) → k < n → (getD table k noSite .first < 64) × (getD table k noSite .second < 64)
-
--- the first i sites of the table stand in the arrays
-pub record Filling (table : List Site) (ends litres : List ℕ) (i : ℕ) : Type 0 where
-  pub arcs : length ends ≡ 1024
-  pub sizes : length litres ≡ 512
-  pub low : i ≤ 512
-  pub depot : (e : Bool) (k : ℕ) → k < i → at ends (arc e k) ≡ end e (getD table k noSite)
-  pub litre : (k : ℕ) → k < i → at litres k ≡ getD table k noSite .litres
-  pub fits : (k : ℕ) → k < i → at litres k < 2 ^ 32
-  pub blank : (e : Bool) (k : ℕ) → i ≤ k → k < 512 → at ends (arc e k) ≡ 64
-  pub none : (k : ℕ) → i ≤ k → k < 512 → at litres k ≡ 0
-
--- the set of the depots that the first i sites name
-pub record Named (table : List Site) (set i : ℕ) : Type 0 where
-  pub depots : (d : ℕ) → has set d ≡ any (λ k. names (getD table k noSite) d) i
 
 -- site i stands at place i; a place without a site has no litres and the depot 64
 pub record Holds (N : Network) (ends litres crews : List ℕ) (listed : ℕ) : Type 0 where
@@ -82,8 +62,3 @@ pub record Grouped (ends litres crews : List ℕ) (listed : ℕ) (share groups :
   pub size : length share ≡ 1024
   pub plan : (N : Network) → Valid N → Holds N ends litres crews listed → TruePlan N (take n groups) (take (N .count) share)
   pub beyond : (k : ℕ) → n ≤ k → at groups k ≡ 0
-
--- the first n elements, and 0 beyond
-pub record Copied (xs : List ℕ) (n : ℕ) (ys : List ℕ) : Type 0 where
-  pub first : take n ys ≡ take n xs
-  pub beyond : (i : ℕ) → n ≤ i → at ys i ≡ 0

@@ -9,11 +9,8 @@ use lib.ListN.{length, set}
 use Rattle.sets.specs.Sum.{when, sum}
 use Rattle.sets.specs.Set.{Depots, has}
 use Rattle.residual.specs.Array.{at, totalLoad}
+use Rattle.lay_on.specs.Raise.{raise}
 use Rattle.attempt.specs.Outcome.{brings}
-
--- the array with m more at place i
-abbrev pub raise : List ℕ → ℕ → ℕ → List ℕ
-raise xs i m = set xs i (at xs i + m)
 
 -- the sites and their litres: 64 stands for no depot, with no litres
 pub record Listed (ends litres : List ℕ) : Type 0 where

@@ -2,13 +2,11 @@
 // A site i has two arcs, i at its first depot and 512 + i at its second: `ends` has their depots, 64 where there is no site, `share` what each has.
 ghost use mathlib.Core.Path.{_≡_};
 ghost use mathlib.Core.Bool.{cond, _&&_, _||_};
-ghost use Prim.Native.Nat.{ℕ, _+_, _*_, _-_, _<_, _^_};
-ghost use lib.Dec.{eqb};
-ghost use lib.ListN.{length, set};
-ghost use Rattle.sets.specs.Sum.{when};
-ghost use Rattle.sets.specs.Set.{has, setOf};
+ghost use Prim.Native.Nat.{ℕ, _+_, _*_, _<_, _^_};
+ghost use lib.ListN.{length};
+ghost use Rattle.sets.specs.Set.{has};
 ghost use Rattle.residual.specs.Array.{at, totalLoad};
-ghost use Rattle.attempt.specs.Lay.{raise, Listed, SiteLaid, Ready, Laying, Aiming};
+ghost use Rattle.attempt.specs.Lay.{Listed, SiteLaid, Ready, Laying, Aiming};
 ghost use Rattle.attempt.specs.Attempt.{Stage, Attempted};
 
 // Is depot d in the set?
@@ -65,45 +63,6 @@ fn carries(set: u64, before: u64, x: usize, y: usize) -> bool
     )
 }
 
-fn part(there: bool, x: u64) -> u64
-    ensures { λ r. ⌜ r ≡ when there x ⌝ }
-{
-    if there {
-        return x;
-    }
-    0
-}
-
-// Adds m to the load of depot d.
-fn add_to(load: &mut [u64], d: usize, m: u64)
-    requires { ⌜ (d < 64) × (length (now load) ≡ 64) × (totalLoad (now load) + m < 2 ^ 64) ⌝ }
-    ensures { λ _. ⌜ now (load .exit) ≡ raise (now (load .entry)) d m ⌝ }
-{
-    load[d] = load[d] + m;
-}
-
-// Stores the shares of site i.
-fn store(share: &mut [u64], i: usize, first: u64, second: u64)
-    requires { ⌜ (i < 512) × (length (now share) ≡ 1024) ⌝ }
-    ensures { λ _. ⌜ now (share .exit) ≡ set (set (now (share .entry)) i first) (512 + i) second ⌝ }
-{
-    share[i] = first;
-    share[512 + i] = second;
-}
-
-// Lays t of site i on its first depot x if that is in the set, else on its second depot y.
-fn lay_on(i: usize, x: usize, y: usize, inside: bool, t: u64, share: &mut [u64], load: &mut [u64])
-    requires { ⌜ (i < 512) × (x < 64) × (y < 64) ⌝ }
-    requires { ⌜ (length (now share) ≡ 1024) × (length (now load) ≡ 64) × (totalLoad (now load) + t < 2 ^ 64) ⌝ }
-    ensures { λ _. ⌜ (now (share .exit) ≡ set (set (now (share .entry)) i (when inside t)) (512 + i) (t - when inside t)) × (now (load .exit) ≡ raise (raise (now (load .entry)) x (when inside t)) y (t - when inside t)) ⌝ }
-{
-    let first = part(inside, t);
-    let second = t - first;
-    store(share, i, first, second);
-    add_to(load, x, first);
-    add_to(load, y, second);
-}
-
 // Lays site i whole on one of its depots, if the set carries it. The litres that it brings.
 fn lay_site(
     ends: &[usize],
@@ -127,8 +86,8 @@ fn lay_site(
     if covers(before, x, y) {
         return 0;
     }
-    let w = part(carries(set, before, x, y), litres[i]);
-    lay_on(i, x, y, contains(set, x), q * w, share, load);
+    let w = lay_on::part(carries(set, before, x, y), litres[i]);
+    lay_on::lay_on(i, x, y, contains(set, x), q * w, share, load);
     w
 }
 
@@ -155,23 +114,6 @@ pub fn lay(
     total
 }
 
-// The depots that take part and were not reached.
-fn unreached(rank: &[usize]) -> u64
-    requires { ⌜ length (now rank) ≡ 64 ⌝ }
-    ensures { λ r. ⌜ r ≡ setOf (λ d. eqb (at (now (rank .entry)) d) 64) 64 ⌝ }
-{
-    let mut set: u64 = 0;
-    let mut d: usize = 0;
-    while d < 64 {
-        let place = rank[d];
-        if place == 64 {
-            set = sets::with(set, d as u8);
-        }
-        d += 1;
-    }
-    set
-}
-
 fn mark(t: bool) -> usize
     ensures { λ r. ⌜ r ≡ cond t 64 65 ⌝ }
 {
@@ -190,7 +132,7 @@ pub fn aim(crews: &[u64], set: u64, w: u64, target: &mut [u64], rank: &mut [usiz
     let mut d: usize = 0;
     while d < 64 {
         let t = contains(set, d);
-        target[d] = part(t, w * crews[d]);
+        target[d] = lay_on::part(t, w * crews[d]);
         rank[d] = mark(t);
         d += 1;
     }
@@ -225,5 +167,5 @@ pub fn attempt(
         &mut order,
         &mut rank,
     );
-    unreached(&rank)
+    ranks::unreached(&rank)
 }

@@ -1,10 +1,10 @@
 // Desks and tables that no history leaves behind, put to the desk's entry. Where row 0 applies, every call but load is refused by it, and the desk, the table and the
 // buffer come back as they were; load works. Where only rows 15 or 16 would refuse the held plan, or the content lies beyond what is held, the desk answers from what it holds.
-use edition1::OutOn1;
 use edition1::Request1;
 use edition1::Store1;
-use edition1::call_on1;
 use edition1::fresh1;
+use entries1::OutOn1;
+use entries1::call_on1;
 use store::Answer;
 use table::Site1;
 use tally::Tally;

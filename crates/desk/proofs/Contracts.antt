@@ -1,4 +1,4 @@
--- The contract of each exported desk function, as the program logic has it, says what the definitions of `specs/Codes` say, and asks nothing. Each holds by
+-- The contract of each exported desk function, as the program logic has it, says what the definitions of `codes/specs/Codes` say, and asks nothing. Each holds by
 -- computation, so a changed contract is refused here.
 use Prim.Native.Nat.{ℕ}
 use mathlib.Core.List.{List, []}
@@ -16,7 +16,7 @@ use denote.Ref.{RefT, now}
 use lib.IntN.{ℤ}
 use Rattle.edition1.specs.declared.Request1.the-variants.{Load, Change, Add, Propose, Share, Depot, Difference, Written}
 use Rattle.edition1.specs.Edition1.{callOf1}
-use Rattle.desk.specs.Codes.{Did, Figures, Differs, WroteOut, FreshCode}
+use Rattle.codes.specs.Codes.{Did, Figures, Differs, WroteOut, FreshCode}
 use Rattle.desk.proofs.sulgheti_fresh as of-fresh
 use Rattle.desk.proofs.sulgheti_load as of-load
 use Rattle.desk.proofs.sulgheti_change as of-change

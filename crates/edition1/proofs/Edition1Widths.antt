@@ -1,12 +1,11 @@
 -- The widths of edition 1: shares fit by their type, and a decision on figures of these widths is one of edition 1. Assumes nothing.
-use mathlib.Core.Path.{_≡_, refl, sym, ap, ap₂, subst, _∙_}
+use mathlib.Core.Path.{_≡_, sym, ap, ap₂, subst, _∙_}
 use mathlib.Core.Logic.{⊎-elim}
 use mathlib.Core.List.{List, [], _∷_, map}
 use Prim.Native.Nat.{ℕ, zero, suc, _<_, _≤_, _^_, min}
 use native.Mathlib.Omega.{arith}
 use lib.Dec.{ltb, ltb→lt, nltb→le, not-T, lit<}
-use lib.ListN.{length, getD, take, drop, length-map, drop-of-length-le, List·getD-eq-default}
-use lib.Seq.{take-all, length-take-le}
+use lib.ListN.{length, getD, take, length-map, List·getD-eq-default, replicate, length-replicate}
 use mir.Val.{Val}
 use denote.Builtin.{u32}
 use denote.Array.{Array, each}
@@ -19,23 +18,22 @@ use Rattle.records.specs.declared.Edition.{Edition}
 use Rattle.records.specs.Bytes.{Bytes}
 use Rattle.records.specs.Format.{edition1}
 use Rattle.table.specs.declared.Site1.{Site1}
-use Rattle.table.specs.Table.{overlay, blank, heldOf}
+use Rattle.table.specs.Table.{blank, heldOf}
 use Rattle.table.specs.Widths.{noSite1, widened, LitresFit}
-use Rattle.table.proofs.Overlay.{overlay-at, overlay-length, held-length, map-held}
-use Rattle.table.proofs.Widths.{fit-at, widened-injective}
-use Rattle.table.proofs.Copies.{widened-over, stored-fits, stored-first}
+use Rattle.table.proofs.Overlay.{overlay-all, overlay-at, held-length, map-held}
+use Rattle.table.proofs.Widths.{fit-at}
+use Rattle.table.proofs.Copies.{Copied, copied-begins, copied-ends, widened-over, stored-fits}
 use Rattle.held_state.specs.declared.Store.{Store}
 use Rattle.edition1.specs.declared.Store1.{Store1}
 use Rattle.store.specs.declared.Request.{Request}
 use Rattle.store.specs.declared.Request.the-variants.{Change, Add}
 use Rattle.edition1.specs.declared.Request1.{Request1}
 use Rattle.store.specs.declared.Decision.{Decision}
-use Rattle.edition1.specs.declared.Decision1.{Decision1}
 use Rattle.store.specs.Calls.{told}
-use Rattle.held_state.specs.Held.{State, on}
-use Rattle.store.specs.State.{Done, fresh, step}
-use Rattle.store.specs.Serve.{Served}
-use Rattle.edition1.specs.Edition1.{storeOf1, view1, requestOf1, callOf1, fresh1, turned1, Served1}
+use Rattle.held_state.specs.Held.{on}
+use Rattle.store.specs.State.{Done}
+use Rattle.serve.specs.Serve.{Served}
+use Rattle.edition1.specs.Edition1.{storeOf1, view1, requestOf1, callOf1, Served1}
 use Rattle.edition1.proofs.Edition1Fits.{Fits, Named, named, step-fits}
 
 -- an array of 32-bit figures
@@ -48,6 +46,17 @@ each-fits (x ∷ l) (u ∷ us) is (suc i) = each-fits l us (is .1) i
 pub shares-fit : (n : ℕ) (l : List ℕ) (vs : List Val) → Is (Array u32 n) l vs → (i : ℕ) → getD l i 0 < 2 ^ 32
 shares-fit n l vs is = each-fits l (is .0) (is .1 .1)
 
+-- n places, all zero, to which the n figures of a list are copied
+abbrev pub CopiedAll : Type 0 → ℕ → List ℕ → List ℕ → ℕ → Type 0
+CopiedAll P n l a i = Copied P n l (replicate n 0) a i
+
+module _ {P : Type 0} {n : ℕ} {l : List ℕ} (long : length l ≡ n) where
+  pub all-begins : CopiedAll P n l (replicate n 0) 0
+  all-begins = copied-begins (omega arith) (omega (arith, length-replicate {A = ℕ} n 0))
+
+  pub all-ends : {a : List ℕ} {i : ℕ} → CopiedAll P n l a i → n ≤ i → P → a ≡ l
+  all-ends m h p = copied-ends m h p ∙ overlay-all l (replicate n 0) n (omega arith) (omega (arith, length-replicate {A = ℕ} n 0))
+
 -- the litres of the first 512 places of a table are those of what is held of it
 table-fits : (l : List Site) (table : List Site) → l ≡ heldOf noSite table → LitresFit l → (i : ℕ) → i < 512 → getD table i noSite .litres < 2 ^ 16
 table-fits l table e h i m =
@@ -58,19 +67,6 @@ table-fits l table e h i m =
     (ap (λ (x : List Site). getD x i noSite) e ∙ overlay-at (min (length table) 512) table (blank noSite) i noSite (omega arith) (omega arith))
     (fit-at l h i (omega (arith, m, ap length e, held-length noSite table))))
     (λ n. rw (List·getD-eq-default table noSite (nltb→le i (length table) (not-T (ltb i (length table)) n))) (lit< tt)) (T? (ltb i (length table)))
-
--- as many places as are asked for, or all that there are
-all-places : (asked few n : ℕ) (l : List Site1) → few ≡ min asked n → length l ≡ n → (take few l ≡ take asked l) × (drop few l ≡ drop asked l)
-all-places asked few n l e long =
-    ⊎-elim
-    (λ t.
-    let k : few ≡ asked = omega (arith, e, ltb→lt asked n t) in
-    (ap (λ (i : ℕ). take i l) k, ap (λ (i : ℕ). drop i l) k))
-    (λ f.
-    let m : n ≤ asked = nltb→le asked n (not-T (ltb asked n) f) in
-    let k : length l ≤ few = omega (arith, e, m, long) in
-    let j : length l ≤ asked = omega (arith, m, long) in
-    (take-all few l k ∙ sym (take-all asked l j), drop-of-length-le l k ∙ sym (drop-of-length-le l j))) (T? (ltb asked n))
 
 abbrev done1 : Store → List Site → Decision → List ℕ → Done
 done1 a t d last = record { after = on edition1 a t; reply = record { answer = told (d .answer); buffer = last } }
@@ -115,49 +111,3 @@ module _ (store : Store1) (sites : List Site1) (places : ℕ) (request : Request
   widened-serves {q = q} {d} {held} {l} e w a (r, n) bytes s narrows fronts =
       serves1 d held l (rw (e, w .0, a .0, r) at s) bytes (subst LitresFit (a .0) (a .1))
       (subst (λ (x : Store). (i : ℕ) → getD (x .shares) i 0 < 2 ^ 32) (w .0) (w .1)) (subst (Named (2 ^ 16)) r (named (2 ^ 16) q (n .0) (n .1))) narrows fronts
-
-  -- a call on the first places of a table by value
-  on-first : (table : List Site1) {r : Decision1} {after : List Site1} → places ≤ length table → sites ≡ heldOf noSite1 (take places table)
-      → Served1 store sites places request input buffer r last
-      → (after ≡ overlay (r .n) (r .sites) table) × (length (r .sites) ≡ 512)
-      → (turned1 (record { answer = r .answer; store = r .store }) (take places after) last ≡ step (view1 store (take places table)) (callOf1 request input buffer))
-      × (drop places after ≡ drop places table)
-  on-first table {r = r} {after = after} room e s (f, long) =
-      let p = stored-first (r .n) places (r .sites) table (omega (arith, s .few, long)) (s .room) room in (
-        ap (λ (t : List Site1). turned1 (record { answer = r .answer; store = r .store }) t last) (ap (take places) f ∙ p .0)
-            ∙ s .steps (take places table) e (sym (length-take-le places table room)),
-        ap (drop places) f ∙ p .1,
-      )
-
-  -- the same where more places are asked for than there are: they are all of them
-  pub calls-on1 : (asked : ℕ) (table : List Site1) {r : Decision1} {after : List Site1} → places ≡ min asked (length table)
-      → sites ≡ heldOf noSite1 (take places table)
-      → Served1 store sites places request input buffer r last
-      → (after ≡ overlay (r .n) (r .sites) table) × (length (r .sites) ≡ 512)
-      → (turned1 (record { answer = r .answer; store = r .store }) (take asked after) last ≡ step (view1 store (take asked table)) (callOf1 request input buffer))
-      × (drop asked after ≡ drop asked table)
-  calls-on1 asked table {r} {after} few e s x =
-      let room : places ≤ length table = omega (arith, few) in
-      let long : length after ≡ length table = ap length (x .0) ∙ overlay-length (r .sites) table (r .n) (omega (arith, s .few, x .1)) (omega (arith, s .room, room)) in
-      let a = all-places asked places (length table) table few refl in
-      let b = all-places asked places (length table) after few long in
-      let (steps, kept) = on-first table {r = r} {after = after} room e s x in (
-        ap (λ (t : List Site1). turned1 (record { answer = r .answer; store = r .store }) t last) (sym (b .0))
-            ∙ steps
-            ∙ ap (λ (t : List Site1). step (view1 store t) (callOf1 request input buffer)) (a .0),
-        sym (b .1) ∙ kept ∙ a .1,
-      )
-
--- ---- states of edition 1
-
--- different stores and tables are different states
-pub view1-injective : (s s′ : Store1) (table table′ : List Site1) → view1 s table ≡ view1 s′ table′ → (s ≡ s′) × (table ≡ table′)
-view1-injective s s′ table table′ e =
-    (ap (λ (v : State). narrowOf (v .store)) e, widened-injective table table′ (ap (λ (v : State). v .table) e))
-  where
-    narrowOf : Store → Store1
-    narrowOf x = record { count = x .count; held = x .held; grouped = x .grouped; groups = x .groups; shares = x .shares }
-
--- a fresh store of edition 1 is a fresh store
-pub fresh1-is : (table : List Site1) → view1 fresh1 table ≡ fresh edition1 (map widened table)
-fresh1-is table = refl

@@ -39,6 +39,15 @@ requestOf1 Written = wide.Written
 abbrev pub callOf1 : Request1 → List ℕ → List ℕ → Call
 callOf1 q input buffer = record { request = requestOf1 q; input = input; buffer = buffer }
 
+-- what a call is passed beside the store and the table: a request, an input and a buffer
+pub record Passed1 : Type 0 where
+  pub request : Request1
+  pub input : List ℕ
+  pub buffer : List ℕ
+
+abbrev pub passed : Passed1 → Call
+passed p = callOf1 (p .request) (p .input) (p .buffer)
+
 -- "A fresh desk has no sites, no plan, and 512 places for shares, all zero. Its 64 places for groups are zero too."
 abbrev pub fresh1 : Store1
 fresh1 = record { count = 0; held = false; grouped = 0; groups = replicate 64 0; shares = replicate 512 0 }

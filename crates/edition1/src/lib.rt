@@ -1,19 +1,16 @@
-// The entries of edition 1 of document 01.
+// The desk by the widths of edition 1 of document 01.
 use held_state::Store;
 use records::edition1;
+use serve::serve;
 use store::Answer;
 use store::Request;
-use store::serve::serve;
 use table::Site1;
-use table::values::held_on1;
 use table::values::narrow_first;
-use table::values::store_on1;
 use table::widen_all;
 ghost use mathlib.Core.Path.{_≡_};
-ghost use Prim.Native.Nat.{ℕ, _<_, _^_, min};
-ghost use lib.ListN.{getD, take, drop};
-ghost use Rattle.store.specs.State.{step};
-ghost use Rattle.edition1.specs.Edition1.{storeOf1, view1, requestOf1, callOf1, fresh1, turned1, Served1};
+ghost use Prim.Native.Nat.{ℕ, _<_, _^_};
+ghost use lib.ListN.{getD};
+ghost use Rattle.edition1.specs.Edition1.{storeOf1, requestOf1, fresh1, Served1};
 
 // Edition 1: the store by its widths, a share in 32 bits.
 pub struct Store1 {
@@ -47,13 +44,6 @@ pub struct Decision1 {
 pub struct Out1 {
     pub answer: Answer,
     pub store: Store1,
-}
-
-// What a call gives back to a program that owns its table.
-pub struct OutOn1 {
-    pub answer: Answer,
-    pub store: Store1,
-    pub table: [Site1; 600],
 }
 
 // "A fresh desk has no sites, no plan, and 512 places for shares, all zero."
@@ -169,57 +159,5 @@ pub fn serve1(
         store,
         sites,
         n,
-    }
-}
-
-// The places of the array that a table of so many has.
-fn places_on1(places: usize) -> usize
-    ensures { λ r. ⌜ r ≡ min places 600 ⌝ }
-{
-    if places < 600 { places } else { 600 }
-}
-
-// A call for a program that owns its table: the table is the first so many places of the array, at most all 600, and those behind keep their content.
-pub fn call_on1(
-    store: Store1,
-    table: [Site1; 600],
-    places: usize,
-    request: Request1,
-    input: &[u8],
-    buffer: &mut [u8],
-) -> OutOn1
-    ensures { λ r. ⌜ (turned1 (record { answer = r .answer; store = r .store }) (take places (r .table)) (now (buffer .exit)) ≡ step (view1 store (take places table)) (callOf1 request (now (input .entry)) (now (buffer .entry)))) × (drop places (r .table) ≡ drop places table) ⌝ }
-{
-    let few = places_on1(places);
-    let sites = held_on1(table, few);
-    let d = serve1(store, sites, few, request, input, buffer);
-    let answer = d.answer;
-    let n = d.n;
-    let store = d.store;
-    let left = d.sites;
-    let table = store_on1(table, left, n);
-    OutOn1 {
-        answer,
-        store,
-        table,
-    }
-}
-
-// A call, over a lent table. Three calls and no branch.
-pub fn call1(
-    store: Store1,
-    table: &mut [Site1],
-    request: Request1,
-    input: &[u8],
-    buffer: &mut [u8],
-) -> Out1
-    ensures { λ r. ⌜ turned1 r (now (table .exit)) (now (buffer .exit)) ≡ step (view1 store (now (table .entry))) (callOf1 request (now (input .entry)) (now (buffer .entry))) ⌝ }
-{
-    let sites = table::held1(table);
-    let d = serve1(store, sites, table.len(), request, input, buffer);
-    table::store1(table, d.sites, d.n);
-    Out1 {
-        answer: d.answer,
-        store: d.store,
     }
 }

@@ -330,6 +330,20 @@ pub fn groups(list: ListArray) -> PlanArray {
     }
 }
 
+// Are the plan's groups those of a small list, and its other places 0?
+pub fn has_groups(list: ListArray, plan: PlanArray) -> bool {
+    let found = groups(list);
+    if found.count != plan.count {
+        return false;
+    }
+    for k in 0..64 {
+        if found.groups[k] != plan.groups[k] {
+            return false;
+        }
+    }
+    true
+}
+
 // Is the plan true of the list? For a list that is not small, no.
 pub fn is_true(list: ListArray, plan: PlanArray) -> bool {
     if !is_small(list) {

@@ -1,5 +1,5 @@
 // Document 01's lists with known plans, counted over all sets.
-use exhaustive::groups;
+use exhaustive::has_groups;
 use exhaustive::is_true;
 use networks::no_groups;
 use networks::no_sites;
@@ -31,23 +31,9 @@ fn shares(plan: PlanArray, s: u64, t: u64) -> PlanArray {
     with_share(with_share(plan, 0, s), 1, t)
 }
 
-// The plan's groups are those of the count.
-fn same_groups(list: ListArray, plan: PlanArray) -> bool {
-    let found = groups(list);
-    if found.count != plan.count {
-        return false;
-    }
-    for k in 0..64 {
-        if found.groups[k] != plan.groups[k] {
-            return false;
-        }
-    }
-    true
-}
-
 // The list's groups are the plan's, and the plan is true or not, as expected.
 fn known(t: Tally, list: ListArray, plan: PlanArray) -> Tally {
-    tallied(tallied(t, same_groups(list, plan)), is_true(list, plan))
+    tallied(tallied(t, has_groups(list, plan)), is_true(list, plan))
 }
 
 fn untrue(t: Tally, list: ListArray, plan: PlanArray) -> Tally {
@@ -138,7 +124,7 @@ fn false_others(start: Tally) -> Tally {
 fn main() {
     let mut t = tally::nothing();
     t = starred_others(starred(t));
-    t = tallied(t, same_groups(nine_sites(), two_groups(31, 32)));
+    t = tallied(t, has_groups(nine_sites(), two_groups(31, 32)));
     t = false_others(false_plans(t));
     tally::print(b"known plans", t);
 }

@@ -1,9 +1,9 @@
 // Moves share between the depots of a set, along residual arcs, until no depot above its target can pass share on to one below.
 // The arrays are those of residual.
 ghost use mathlib.Core.Path.{_≡_};
-ghost use Prim.Native.Nat.{_-_, _<_, max};
+ghost use Prim.Native.Nat.{_-_, _<_};
 ghost use lib.ListN.{length};
-ghost use Rattle.residual.specs.Rounds.{Excess, Depots, Tested, Found, AllDischarged, Cleared, Seeded, Start, Relaxed};
+ghost use Rattle.residual.specs.Rounds.{Excess, Depots, Tested, Found, AllDischarged, Seeded, Start, Relaxed};
 ghost use Rattle.residual.specs.Moves.{Loaded, Ranked, Discharged};
 ghost use Rattle.residual.specs.Search.{Queue, Placed, Linked, Linking, Prepended};
 
@@ -74,15 +74,6 @@ fn discharge_all(
     }
 }
 
-fn most(a: usize, b: usize) -> usize
-    ensures { λ r. ⌜ r ≡ max a b ⌝ }
-{
-    if a < b {
-        return b;
-    }
-    a
-}
-
 // What `have` lacks of `goal`.
 fn deficit(have: u64, goal: u64) -> u64
     ensures { λ r. ⌜ r ≡ goal - have ⌝ }
@@ -91,18 +82,6 @@ fn deficit(have: u64, goal: u64) -> u64
         return goal - have;
     }
     0
-}
-
-// Takes every depot out of the order.
-fn clear(rank: &mut [usize])
-    requires { ⌜ length (now rank) ≡ 64 ⌝ }
-    ensures { λ _. ⌜ Cleared (now (rank .entry)) (now (rank .exit)) ⌝ }
-{
-    let mut d: usize = 0;
-    while d < 64 {
-        rank[d] = most(rank[d], 64);
-        d += 1;
-    }
 }
 
 // Begins the order with the depots below their targets.
@@ -135,7 +114,7 @@ pub fn relax(
     ensures { λ r. ⌜ Relaxed (now (ends .entry)) (now (target .entry)) (now (rank .entry)) (now (share .entry)) (now (load .entry)) r (now (rank .exit)) (now (share .exit)) (now (load .exit)) ⌝ }
 {
     loop {
-        clear(rank);
+        ranks::clear(rank);
         let start = seeds(target, load, order, rank);
         let n = residual::reach(ends, chain, share, start, order, rank);
         let more = any_excess(order, n, target, load);

@@ -26,12 +26,11 @@ use Rattle.store.specs.Calls.{Call, Reply, Told, told}
 use Rattle.held_state.specs.Held.{State}
 use Rattle.store.specs.State.{Done, bare, step}
 use Rattle.store.specs.Trace.{Run, start, then, Steps, History, AllBytes, Exact}
-use Rattle.edition1.specs.Edition1.{view1, callOf1, fresh1}
+use Rattle.edition1.specs.Edition1.{view1, callOf1, fresh1, Passed1, passed}
 use Rattle.store.proofs.History.{exact}
-use Rattle.edition1.proofs.Contracts.{Passed1, passed}
-use Rattle.lent.specs.Layout.{storeBytes, isSized, sitesIn, tableOver}
-use Rattle.lent.specs.Lent.{Lent, stateIn, isRefused, lent, laid, Called, Freshened}
-use Rattle.lent.proofs.RoundTrip.{length-store}
+use Rattle.layout.specs.Layout.{storeBytes, isSized, sitesIn, tableOver}
+use Rattle.lent.specs.Lent.{Lent, stateIn, isKept, lent, laid, Called, Freshened}
+use Rattle.layout.proofs.RoundTrip.{length-store}
 use Rattle.lent.proofs.fresh as of-fresh
 use Rattle.lent.proofs.call as of-call
 
@@ -73,7 +72,7 @@ pub data Calls : List ℕ → List ℕ → List Passed1 → List Result → List
       → Called s t (passed p) (told (r .answer)) (r .store) (r .table) (r .buffer) → Calls (r .store) (r .table) ps rs s' t' → Calls s t (p ∷ ps) (r ∷ rs) s' t'
 
 pub laid-reply : (s t : List ℕ) (d : Done) → laid s t d .reply ≡ d .reply
-laid-reply s t d = by (lent s t (d .reply)) (lent (storeBytes (d .after .store)) (tableOver (d .after .table) t) (d .reply)) (isRefused (d .reply .answer)) refl refl
+laid-reply s t d = by (lent s t (d .reply)) (lent (storeBytes (d .after .store)) (tableOver (d .after .table) t) (d .reply)) (isKept (d .reply .answer)) refl refl
   where
     by : (x y : Lent) (b : Bool) → x .reply ≡ d .reply → y .reply ≡ d .reply → cond b x y .reply ≡ d .reply
     by x y true e f = e

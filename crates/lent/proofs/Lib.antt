@@ -1,4 +1,2 @@
 pub mod Contracts
-pub mod RoundTrip
 pub mod Served
-pub mod Widths

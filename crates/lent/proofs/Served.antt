@@ -1,33 +1,30 @@
 -- A call on lent bytes, from what its parts say. Assumes nothing.
 use Prim.Native.Nat.{ℕ, _*_, _/_, _≤_}
 use mathlib.Core.Bool.{Bool, true, false, cond, true≢false}
-use mathlib.Core.List.{List, [], _∷_, map, flatMap}
+use mathlib.Core.List.{List, [], _∷_, map}
 use mathlib.Core.Option.{Option, none, some}
 use mathlib.Core.Path.{_≡_, refl, ap, ap₂, sym, _∙_}
 use native.Mathlib.Omega.{arith}
-use borrow.Author.Tests.{eq-eqb, ne-eqb, eqb-true}
-use lib.Dec.{leb}
+use borrow.Author.Tests.{eq-eqb, ne-eqb}
 use lib.ListN.{length}
-use Rattle.density.specs.Rows.{firstRow}
-use Rattle.records.specs.Bytes.{Bytes, field}
+use Rattle.records.specs.Bytes.{Bytes}
 use Rattle.table.specs.declared.Site1.{Site1}
 use Rattle.table.specs.Table.{overlay, heldOf}
 use Rattle.table.specs.Widths.{noSite1, widened}
-use Rattle.table.proofs.Overlay.{overlay-none}
 use Rattle.edition1.specs.declared.Store1.{Store1}
 use Rattle.store.specs.declared.Request.{Request}
 use Rattle.store.specs.declared.Request.the-variants.{Load, Change, Add, Propose, Share, Depot, Difference, Written}
 use Rattle.edition1.specs.declared.Request1.{Request1}
 use Rattle.edition1.specs.declared.Decision1.{Decision1}
 use Rattle.store.specs.Calls.{Call, Told, told, refused}
-use Rattle.held_state.specs.Held.{State, corrupt}
-use Rattle.store.specs.State.{Done, triesZero, effectOf, refusal, settle, step}
+use Rattle.held_state.specs.Held.{State}
+use Rattle.store.specs.State.{Done, effectOf, refusal, settle, step}
 use Rattle.store.specs.Trace.{Question}
 use Rattle.edition1.specs.Edition1.{storeOf1, view1, callOf1, fresh1, turned1, Served1}
-use Rattle.lent.specs.Layout.{storeBytes, noStore, isSized, storeIn, sitesIn, tableOver, PutStore, PutSites}
-use Rattle.lent.specs.Lent.{stateIn, Lent, isRefused, lent, laid, Called, Freshened}
+use Rattle.layout.specs.Layout.{storeBytes, isSized, storeIn, sitesIn, tableOver, PutStore, PutSites}
+use Rattle.lent.specs.Lent.{stateIn, Lent, isKept, lent, laid, Called, Freshened}
 use Rattle.lent.specs.Lent as spec
-use Rattle.lent.proofs.RoundTrip.{length-sites, table-again, store-again}
+use Rattle.layout.proofs.RoundTrip.{length-sites, table-again}
 
 sized : (s : List ℕ) → length s ≡ 2584 → isSized s ≡ true
 sized s = eq-eqb (length s) 2584
@@ -48,25 +45,36 @@ fresh-put s h e p =
       reads = λ k. p .reads ∙ e;
     }
 
--- ---- a refused step leaves the state
+-- ---- a refused step and a question leave the state
 
 module _ (s : State) (c : Call) where
-  granted : (q : Request) → isRefused (effectOf s c q .reply .answer) ≡ false
-  granted Load = refl
-  granted (Change i w) = refl
-  granted (Add f d w) = refl
-  granted Propose = refl
-  granted (Share i) = refl
-  granted (Depot d) = refl
-  granted (Difference a d) = refl
-  granted Written = refl
-
-  stays-by : (o : Option ℕ) (q : Request) → isRefused (settle o s c (effectOf s c q) .reply .answer) ≡ true → settle o s c (effectOf s c q) .after ≡ s
-  stays-by none q e = absurd (true≢false (sym e ∙ granted q))
+  stays-by : (o : Option ℕ) (q : Request) → isKept (settle o s c (effectOf s c q) .reply .answer) ≡ true → settle o s c (effectOf s c q) .after ≡ s
   stays-by (some n) q e = refl
+  stays-by none Load e = absurd (true≢false (sym e))
+  stays-by none (Change i w) e = absurd (true≢false (sym e))
+  stays-by none (Add f d w) e = absurd (true≢false (sym e))
+  stays-by none Propose e = absurd (true≢false (sym e))
+  stays-by none (Share i) e = refl
+  stays-by none (Depot d) e = refl
+  stays-by none (Difference a d) e = refl
+  stays-by none Written e = refl
 
-  pub refused-stays : isRefused (step s c .reply .answer) ≡ true → step s c .after ≡ s
-  refused-stays = stays-by (refusal s c) (c .request)
+  kept-stays : isKept (step s c .reply .answer) ≡ true → step s c .after ≡ s
+  kept-stays = stays-by (refusal s c) (c .request)
+
+  asks-by : (o : Option ℕ) (q : Request) → Question q → isKept (settle o s c (effectOf s c q) .reply .answer) ≡ true
+  asks-by (some n) q h = refl
+  asks-by none Load h = absurd h
+  asks-by none (Change i w) h = absurd h
+  asks-by none (Add f d w) h = absurd h
+  asks-by none Propose h = absurd h
+  asks-by none (Share i) h = refl
+  asks-by none (Depot d) h = refl
+  asks-by none (Difference a d) h = refl
+  asks-by none Written h = refl
+
+  asks-kept : Question (c .request) → isKept (step s c .reply .answer) ≡ true
+  asks-kept = asks-by (refusal s c) (c .request)
 
 -- ---- a call
 
@@ -85,22 +93,22 @@ module _ (s t : List ℕ) (request : Request1) (input buffer : List ℕ) where
     steps : after ≡ step (stateIn s t) asked
     steps = v .steps (sitesIn t) f (sym (length-sites t)) ∙ ap (λ (x : Store1). step (view1 x (sitesIn t)) asked) e
 
-    -- what is laid, by whether the call is refused
+    -- what is laid, by whether the call leaves the desk as it was
     abbrev laidBy : Bool → Lent
     laidBy b = cond b (lent s t (after .reply)) (lent (storeBytes (after .after .store)) (tableOver (after .after .table) t) (after .reply))
 
     is-laid : laid s t after ≡ spec.call s t asked
     is-laid = rw (sized s long) (ap (laid s t) steps)
 
-    pub refuses : isRefused (told (d .answer)) ≡ true → Called s t asked (told (d .answer)) s t last
-    refuses r =
+    pub keeps : isKept (told (d .answer)) ≡ true → Called s t asked (told (d .answer)) s t last
+    keeps r =
         record {
           is = ap (λ (b : Bool). laidBy b) (sym r) ∙ is-laid;
           long = refl;
-          reads = λ k. sym (refused-stays (stateIn s t) asked (ap (λ (x : Done). isRefused (x .reply .answer)) (sym steps) ∙ r));
+          reads = λ k. sym (kept-stays (stateIn s t) asked (ap (λ (x : Done). isKept (x .reply .answer)) (sym steps) ∙ r));
         }
 
-    pub puts : isRefused (told (d .answer)) ≡ false → Bytes t → {s' t' : List ℕ} → PutSites (d .n) (d .sites) t t' → PutStore (d .store) s' → length s' ≡ length s
+    pub puts : isKept (told (d .answer)) ≡ false → Bytes t → {s' t' : List ℕ} → PutSites (d .n) (d .sites) t t' → PutStore (d .store) s' → length s' ≡ length s
         → Called s t asked (told (d .answer)) s' t' last
     puts r bytes {s'} {t'} p q kept =
         let room : 4 * d .n ≤ length t = omega (arith, v .room) in
@@ -119,68 +127,12 @@ called-empty {b = y ∷ b} x h = absurd (omega arith)
 
 -- ---- a question changes no byte
 
-module _ (s : State) (c : Call) where
-  asks-by : (o : Option ℕ) (q : Request) → Question q → settle o s c (effectOf s c q) .after ≡ s
-  asks-by (some n) q h = refl
-  asks-by none Load h = absurd h
-  asks-by none (Change i w) h = absurd h
-  asks-by none (Add f d w) h = absurd h
-  asks-by none Propose h = absurd h
-  asks-by none (Share i) h = refl
-  asks-by none (Depot d) h = refl
-  asks-by none (Difference a d) h = refl
-  asks-by none Written h = refl
-
-  question-stays : Question (c .request) → step s c .after ≡ s
-  question-stays = asks-by (refusal s c) (c .request)
-
-  -- a store of 513 sites is refused by row 0
-  tries : (q : Request) → Question q → triesZero q ≡ true
-  tries Load h = absurd h
-  tries (Change i w) h = absurd h
-  tries (Add f d w) h = absurd h
-  tries Propose h = absurd h
-  tries (Share i) h = refl
-  tries (Depot d) h = refl
-  tries (Difference a d) h = refl
-  tries Written h = refl
-
-  corrupt-refused : Question (c .request) → corrupt s ≡ true → isRefused (step s c .reply .answer) ≡ true
-  unfolding firstRow
-  corrupt-refused q h = rw (tries (c .request) q, h)
-
-none-corrupt : (t : List Site1) → corrupt (view1 noStore t) ≡ true
-unfolding corrupt
-none-corrupt t = refl
-
-module _ {s t s' t' buffer : List ℕ} {c : Call} {a : Told} (x : Called s t c a s' t' buffer) (q : Question (c .request)) (b : Bytes s) (d : Bytes t) where
-  abbrev at : State
-  at = stateIn s t
-
-  whole-again : tableOver (map widened (sitesIn t)) t ≡ t
-  unfolding flatMap
-  whole-again =
-      ap (λ (l : List Site1). tableOver (map widened l) t) (sym (overlay-none [] (sitesIn t)))
-      ∙ table-again 0 [] t (omega arith) (omega arith) d
-
-  kept-by : (z : Bool) → isRefused (step at c .reply .answer) ≡ z → (h : Bool) → leb (field s 8 8) 1 ≡ h → isSized s ≡ true
-      → (laid s t (step at c) .store ≡ s) × (laid s t (step at c) .table ≡ t)
-  unfolding storeIn
-  kept-by true e h k l = rw e (refl, refl)
-  kept-by false e false k l =
-      absurd (true≢false (sym (corrupt-refused at c q (rw (l, k) (none-corrupt (sitesIn t)))) ∙ e))
-  kept-by false e true k l =
-      let st = question-stays at c q in
-      rw e (
-        ap (λ (z : State). storeBytes (z .store)) st ∙ store-again s (eqb-true (length s) 2584 l) b k,
-        ap (λ (z : State). tableOver (z .table) t) st ∙ whole-again,
-      )
+module _ {s t s' t' buffer : List ℕ} {c : Call} {a : Told} (x : Called s t c a s' t' buffer) (q : Question (c .request)) where
+  laid-kept : (laid s t (step (stateIn s t) c) .store ≡ s) × (laid s t (step (stateIn s t) c) .table ≡ t)
+  laid-kept = rw (asks-kept (stateIn s t) c q) (refl, refl)
 
   sized-by : (z : Bool) → isSized s ≡ z → (s' ≡ s) × (t' ≡ t)
-  sized-by true e =
-      let k = kept-by (isRefused (step at c .reply .answer)) refl (leb (field s 8 8) 1) refl e in
-      let i = rw e at (x .is) in
-      (ap (λ (l : Lent). l .store) i ∙ k .0, ap (λ (l : Lent). l .table) i ∙ k .1)
+  sized-by true e = let i = rw e at (x .is) in (ap (λ (l : Lent). l .store) i ∙ laid-kept .0, ap (λ (l : Lent). l .table) i ∙ laid-kept .1)
   sized-by false e = let i = rw e at (x .is) in (ap (λ (l : Lent). l .store) i, ap (λ (l : Lent). l .table) i)
 
   pub question-keeps : (s' ≡ s) × (t' ≡ t)

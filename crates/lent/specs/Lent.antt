@@ -8,7 +8,7 @@ use Rattle.store.specs.Calls.{Call, Reply, Told, refused, done, shared, loaded,
 use Rattle.held_state.specs.Held.{State}
 use Rattle.store.specs.State.{Done, bare, step}
 use Rattle.edition1.specs.Edition1.{view1, fresh1}
-use Rattle.lent.specs.Layout.{storeBytes, isSized, storeIn, sitesIn, tableOver}
+use Rattle.layout.specs.Layout.{storeBytes, isSized, storeIn, sitesIn, tableOver}
 
 -- the state that the bytes of a store and of a table stand for
 abbrev pub stateIn : List ℕ → List ℕ → State
@@ -20,21 +20,22 @@ pub record Lent : Type 0 where
   pub table : List ℕ
   pub reply : Reply
 
-abbrev pub isRefused : Told → Bool
-isRefused (refused n) = true
-isRefused done = false
-isRefused (shared s w) = false
-isRefused (loaded w q) = false
-isRefused (differ d q) = false
-isRefused (wrote n) = false
+-- Does a call that is so answered leave the desk as it was? A refused call and a question do.
+abbrev pub isKept : Told → Bool
+isKept (refused n) = true
+isKept done = false
+isKept (shared s w) = true
+isKept (loaded w q) = true
+isKept (differ d q) = true
+isKept (wrote n) = true
 
 abbrev pub lent : List ℕ → List ℕ → Reply → Lent
 lent s t r = record { store = s; table = t; reply = r }
 
--- the bytes of the state after a step; a refused call leaves all as it was
+-- the bytes of the state after a step; a refused call and a question leave all as it was
 abbrev pub laid : List ℕ → List ℕ → Done → Lent
 laid s t d =
-    cond (isRefused (d .reply .answer)) (lent s t (d .reply)) (lent (storeBytes (d .after .store)) (tableOver (d .after .table) t) (d .reply))
+    cond (isKept (d .reply .answer)) (lent s t (d .reply)) (lent (storeBytes (d .after .store)) (tableOver (d .after .table) t) (d .reply))
 
 -- Bytes that are not 2,584 cannot be written as a store: every call, a load too, is refused by row 0.
 abbrev pub call : List ℕ → List ℕ → Call → Lent

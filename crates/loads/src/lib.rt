@@ -4,7 +4,7 @@ use records::ListArray;
 ghost use mathlib.Core.Path.{_≡_};
 ghost use Prim.Native.Nat.{ℕ, _+_, _-_, _*_, _<_, _≤_, _^_};
 ghost use lib.Dec.{eqb};
-ghost use lib.ListN.{length, getD, replicate};
+ghost use lib.ListN.{length, getD};
 ghost use Rattle.sets.specs.Sum.{sum, when};
 ghost use Rattle.tables.specs.Tables.{Holds, partOf, Parts};
 
@@ -21,15 +21,7 @@ fn add_two(r: &mut [u64], a: usize, x: u64, b: usize, y: u64)
     r[b] = r[b] + y;
 }
 
-// Adds the parts of a site's depots: the share is the first depot's, the rest of `all` is the second's.
-fn add_site(r: &mut [u64], s: Site, share: u64, all: u64)
-    requires { ⌜ (length (now r) ≡ 64) × (s .first < 64) × (s .second < 64) × (share ≤ all) × (all ≤ s .litres * 576) × ((k : ℕ) → k < 64 → getD (now r) k 0 ≤ 2 ^ 52) ⌝ }
-    ensures { λ _. ⌜ Holds (now (r .exit)) (λ k. getD (now (r .entry)) k 0 + (when (eqb (s .first) k) share + when (eqb (s .second) k) (all - share))) 64 ⌝ }
-{
-    add_two(r, s.first as usize, share, s.second as usize, all - share);
-}
-
-// The same for two sites, s with the share x of v and t with the share y of w.
+// Adds the parts of two sites' depots, s with the share x of v and t with the share y of w: a share is the first depot's, the rest the second's.
 fn add_pair(r: &mut [u64], s: Site, x: u64, v: u64, t: Site, y: u64, w: u64)
     requires { ⌜ (length (now r) ≡ 64) × (s .first < 64) × (s .second < 64) × (t .first < 64) × (t .second < 64) ⌝ }
     requires { ⌜ (x ≤ v) × (v ≤ s .litres * 576) × (y ≤ w) × (w ≤ t .litres * 576) × ((k : ℕ) → k < 64 → getD (now r) k 0 ≤ 2 ^ 52) ⌝ }
@@ -39,12 +31,12 @@ fn add_pair(r: &mut [u64], s: Site, x: u64, v: u64, t: Site, y: u64, w: u64)
     add_two(r, s.second as usize, v - x, t.second as usize, w - y);
 }
 
-// For each of the 64 depots, its scaled load: the array, all zero, is passed and returned by value, and two sites are added at a time.
-pub fn loads(zero: [u64; 64], list: ListArray, shares: &[u64], wholes: &[u64]) -> [u64; 64]
-    requires { ⌜ (zero ≡ replicate 64 0) × Parts list (now shares) (now wholes) ⌝ }
-    ensures { λ r. ⌜ Holds r (λ d. sum (partOf list (now (shares .entry)) (now (wholes .entry)) d) (list .count)) 64 ⌝ }
+// For each of the 64 depots, its scaled load, added to what the array has at its place. The array is passed and returned by value; two sites are added at a time, and the last alone where their number is odd.
+pub fn loads(from: [u64; 64], list: ListArray, shares: &[u64], wholes: &[u64]) -> [u64; 64]
+    requires { ⌜ ((k : ℕ) → k < 64 → getD from k 0 ≤ 2 ^ 51) × Parts list (now shares) (now wholes) ⌝ }
+    ensures { λ r. ⌜ Holds r (λ d. getD from d 0 + sum (partOf list (now (shares .entry)) (now (wholes .entry)) d) (list .count)) 64 ⌝ }
 {
-    let mut r = zero;
+    let mut r = from;
     let mut i: usize = 0;
     while i + 1 < list.count {
         let j = i + 1;
@@ -55,7 +47,12 @@ pub fn loads(zero: [u64; 64], list: ListArray, shares: &[u64], wholes: &[u64]) -
     }
     if i < list.count {
         let s = list.sites[i];
-        add_site(&mut r, s, shares[i], wholes[i]);
+        let a = s.first as usize;
+        let b = s.second as usize;
+        let x = shares[i];
+        let y = wholes[i] - x;
+        r[a] = r[a] + x;
+        r[b] = r[b] + y;
     }
     r
 }

@@ -24,16 +24,16 @@ use Rattle.records.specs.declared.Read.the-variants.{Count}
 use Rattle.records.specs.declared.Read.the-variants as read
 use Rattle.records.specs.declared.Wrote.{Wrote}
 use Rattle.records.specs.declared.Wrote.the-variants.{Length, Refused}
-use Rattle.records.specs.Values.{listing, planIn}
+use Rattle.records.specs.Values.{Plan, listing, planIn}
 use Rattle.records.specs.Bytes.{Bytes}
 use Rattle.records.specs.Outcome.{Outcome, refused, passed}
-use Rattle.records.specs.Format.{edition1, readList}
+use Rattle.records.specs.Format.{edition1, readList, planOf}
 use Rattle.records.specs.Answer.{listArray, listRead}
 use Rattle.records.specs.Write.{planBytes, onto, Written, LaidOut}
 use Rattle.records.proofs.Records.{all-at}
 use Rattle.records.proofs.Buffers.{length-plan}
 use Rattle.records.proofs.Answers.{list-counted, list-refused, listing-array}
-use Rattle.records.proofs.RoundTrip.{Marked, Good, list-good, list-depots, list-few, laid-read}
+use Rattle.records.proofs.RoundTrip.{Marked, Good, list-good, list-depots, list-few, laid-plan, laid-read}
 use Rattle.judge.specs.Check.{checkRow}
 use Rattle.maker.specs.Planned.{Planned}
 use Rattle.maker.specs.Make.{PlanWritten, Made}
@@ -123,6 +123,19 @@ front bytes out last n w = split (leb (length bytes) (length out)) (w .answer) (
     split false a b = let z : _≡_ {A = ℕ} 0 1 = cc in absurd (omega arith)
     split true a b = let k : length bytes ≡ n = cc in rw b (take-at bytes (drop (length bytes) out) n k)
 
+-- what is written is laid out as the plan with the groups of the definition
+made-laid : (e : Edition) (s out last : List ℕ) (n : ℕ) {l : Listing} → readList e 512 s ≡ passed l → (p : PlanWritten e l out (Length n) last)
+    → LaidOut e l (record { groups = groupsOf (network l); shares = p .shares }) (take n last)
+unfolding network
+made-laid e s out last n {l = l} h p =
+    record {
+      few = groups-few (network l) (valid l (list-depots e 512 s h)) (groupsOf (network l)) (p .plan .groups);
+      sets = p .plan .form .sets;
+      each = p .plan .form .each;
+      fits = p .fits;
+      bytes-are = front _ out last n (p .written);
+    }
+
 -- "the plan passes": Check refuses no plan that was made
 pub made-passes : (e : Edition) → Marked e → (s out last : List ℕ) (n : ℕ) → Made e (readList e 512 s) out (Length n) last → checkRow e s (take n last) ≡ none
 unfolding checkRow network
@@ -130,19 +143,15 @@ made-passes e marks s out last n m = by-list (readList e 512 s) refl m
   where
     judge : (l : Listing) → readList e 512 s ≡ passed l → PlanWritten e l out (Length n) last → checkRow e s (take n last) ≡ none
     judge l h p =
-        let N = network l in
-        let gs = groupsOf N in
-        let ok = valid l (list-depots e 512 s h) in
-        let laid : LaidOut e l (record { groups = gs; shares = p .shares }) (take n last) =
-        record {
-          few = groups-few N ok gs (p .plan .groups);
-          sets = p .plan .form .sets;
-          each = p .plan .form .each;
-          fits = p .fits;
-          bytes-are = front _ out last n (p .written);
-        } in
-        rw (h, laid-read e marks l (list-few e 512 s h .0) laid, no-row N gs (p .shares) ok (p .plan .form) .1 (p .plan))
+        rw (h, laid-read e marks l (list-few e 512 s h .0) (made-laid e s out last n h p), no-row (network l) (groupsOf (network l)) (p .shares) (valid l (list-depots e 512 s h)) (p .plan .form) .1 (p .plan))
 
     by-list : (o : Outcome Listing) → readList e 512 s ≡ o → Made e o out (Length n) last → checkRow e s (take n last) ≡ none
     by-list (refused k) h p = let q = p .0 in let z : _≡_ {A = ℕ} 0 1 = cc in absurd (omega arith)
     by-list (passed l) h p = judge l h p
+
+-- the groups of the plan written, read back
+pub groups-written : (e : Edition) (s out last : List ℕ) (n : ℕ) {l : Listing} → readList e 512 s ≡ passed l → Made e (readList e 512 s) out (Length n) last
+    → planOf e (length (l .sites)) (take n last) .groups ≡ groupsOf (network l)
+groups-written e s out last n {l = l} h m =
+    let p : PlanWritten e l out (Length n) last = subst (λ (o : Outcome Listing). Made e o out (Length n) last) h m in
+    ap (λ (x : Plan). x .groups) (laid-plan e l _ (take n last) (made-laid e s out last n h p))

@@ -1,119 +1,14 @@
 // Reads a list on standard input, at most 3,077 bytes, makes a plan, and prints it for a person to read: its groups, and what each depot brings to each site.
 // Of a list that is refused it prints the row and what it means.
+use figures::Figures;
 use libc::STDIN_FILENO;
 use libc::STDOUT_FILENO;
-use records::ListArray;
-use records::PlanArray;
+use lines::GroupLine;
+use lines::Part;
+use lines::SiteLine;
 use records::Read;
-ghost use mathlib.Core.Path.{_≡_};
-ghost use Prim.Native.Nat.{_+_, _*_, _<_, _≤_, max};
-ghost use lib.Dec.{T};
-ghost use lib.ListN.{length, getD};
-ghost use Rattle.density.specs.Network.{depotsInRange};
-ghost use Rattle.density.specs.Groups.{groupsOf};
-ghost use Rattle.density.specs.Plan.{Rules};
-ghost use Rattle.records.specs.Values.{listing};
-ghost use Rattle.tables.specs.Tables.{net, sharesIn};
-ghost use Rattle.maker.specs.Planned.{Planned};
-ghost use Rattle.plan.specs.Lines.{groupLine, siteLine, Weighed, Charted};
-
-// A number of q-ths as a mixed fraction: whole units, and a rest of fewer than q.
-pub struct Fraction {
-    pub whole: u64,
-    pub rest: u64,
-}
-
-// What is printed of a group: its set of depots, W and q.
-pub struct GroupLine {
-    pub depots: u64,
-    pub litres: u64,
-    pub size: u64,
-}
-
-// What a depot brings to a site, in q-ths of a litre.
-pub struct Part {
-    pub depot: u8,
-    pub share: u64,
-}
-
-// What is printed of a site: what its depots bring, q of the group that carries it, and its litres.
-pub struct SiteLine {
-    pub first: Part,
-    pub second: Part,
-    pub size: u64,
-    pub litres: u64,
-}
-
-// x q-ths as a mixed fraction.
-pub fn mixed(x: u64, q: u64) -> Fraction
-    requires { ⌜ 0 < q ⌝ }
-    ensures { λ r. ⌜ (x ≡ r .whole * q + r .rest) × (r .rest < q) ⌝ }
-{
-    let whole = x / q;
-    let rest = x % q;
-    Fraction { whole, rest }
-}
-
-// The line of a group of the plan made.
-pub fn group_line(
-    list: ListArray,
-    plan: PlanArray,
-    litres: &[u64],
-    sizes: &[u64],
-    k: usize,
-) -> GroupLine
-    requires { ⌜ (k < plan .count) × Weighed list plan (now litres) (now sizes) ⌝ }
-    ensures { λ r. ⌜ (r ≡ groupLine (net list) (groupsOf (net list)) k) × (0 < r .size) ⌝ }
-{
-    GroupLine {
-        depots: plan.groups[k],
-        litres: litres[k],
-        size: sizes[k],
-    }
-}
-
-// q of the group that carries a site: the later of its depots' groups, whose places are a and b.
-fn carrier_size(sizes: &[u64], a: u8, b: u8) -> u64
-    requires { ⌜ (length (now sizes) ≡ 64) × (max a b < 64) ⌝ }
-    ensures { λ r. ⌜ r ≡ getD (now (sizes .entry)) (max a b) 0 ⌝ }
-{
-    if a < b {
-        return sizes[b as usize];
-    }
-    sizes[a as usize]
-}
-
-// The line of a site of the plan made: its shares keep the rules.
-pub fn site_line(
-    list: ListArray,
-    plan: PlanArray,
-    places: &[u8],
-    sizes: &[u64],
-    i: usize,
-) -> SiteLine
-    requires { ⌜ (i < list .count) × Charted list plan (now places) (now sizes) ⌝ }
-    ensures { λ r. ⌜ r ≡ siteLine (net list) (groupsOf (net list)) (sharesIn list plan) i ⌝ }
-    ensures { λ r. ⌜ Rules (net list) (groupsOf (net list)) (sharesIn list plan) i × (0 < r .size) ⌝ }
-{
-    let s = list.sites[i];
-    let all = tables::whole(s, places, sizes);
-    let size = carrier_size(sizes, places[s.first as usize], places[s.second as usize]);
-    let share = plan.shares[i];
-    let first = Part {
-        depot: s.first,
-        share,
-    };
-    let second = Part {
-        depot: s.second,
-        share: all - share,
-    };
-    SiteLine {
-        first,
-        second,
-        size,
-        litres: s.litres as u64,
-    }
-}
+ghost use Prim.Native.Nat.{_<_};
+ghost use Rattle.figures.specs.Computed.{Computed};
 
 fn print(text: &[u8]) {
     io::write_all(STDOUT_FILENO, text);
@@ -125,29 +20,39 @@ fn number(x: u64, after: &[u8]) {
     print(after);
 }
 
-// Prints how many there are of a thing, with its name for one and for any other number.
-fn count(x: u64, one: &[u8], many: &[u8]) {
+// Prints a word, for one or for any other number of things.
+fn word(x: u64, one: &[u8], many: &[u8]) {
     if x == 1 {
-        number(x, one);
+        print(one);
     } else {
-        number(x, many);
+        print(many);
     }
 }
 
-// Prints x q-ths, as `4 1/2`, `1/2`, `4` or `0`, and a text behind them.
-fn print_mixed(x: u64, q: u64, after: &[u8])
+// Prints how many there are of a thing, with its name for one and for any other number.
+fn count(x: u64, one: &[u8], many: &[u8]) {
+    io::print_decimal(STDOUT_FILENO, x);
+    word(x, one, many);
+}
+
+fn print_litres(x: u64) {
+    count(x, b" litre", b" litres");
+}
+
+// Prints x q-ths, as `4 1/2`, `1/2`, `4` or `0`.
+fn print_mixed(x: u64, q: u64)
     requires { ⌜ 0 < q ⌝ }
 {
-    let m = mixed(x, q);
+    let m = lines::mixed(x, q);
     if m.rest == 0 {
-        number(m.whole, after);
+        io::print_decimal(STDOUT_FILENO, m.whole);
         return;
     }
     if m.whole > 0 {
         number(m.whole, b" ");
     }
     number(m.rest, b"/");
-    number(q, after);
+    io::print_decimal(STDOUT_FILENO, q);
 }
 
 // Prints the depots of a set.
@@ -161,59 +66,50 @@ fn print_depots(set: u64) {
     }
 }
 
-// Prints litres and a text behind them.
-fn print_litres(x: u64, after: &[u8]) {
-    count(x, b" litre", b" litres");
-    print(after);
+// Prints the depots of a group, and the verb.
+fn print_carriers(size: u64, depots: u64) {
+    word(size, b"depot ", b"depots ");
+    print_depots(depots);
+    word(size, b"carries ", b"carry ");
 }
 
-// What follows `depot` for a group of one depot, and for one of more.
-fn print_one(x: GroupLine) {
-    print(b" ");
-    print_depots(x.depots);
-    print(b"carries ");
-    print_litres(x.litres, b"\n");
-}
-
-fn print_several(x: GroupLine)
-    requires { ⌜ 0 < x .size ⌝ }
+// Prints what each depot of a group of several carries.
+fn print_each(litres: u64, size: u64)
+    requires { ⌜ 0 < size ⌝ }
 {
-    print(b"s ");
-    print_depots(x.depots);
-    print(b"carry ");
-    print_litres(x.litres, b", ");
-    print_mixed(x.litres, x.size, b" each\n");
+    if size != 1 {
+        print(b", ");
+        print_mixed(litres, size);
+        print(b" each");
+    }
 }
 
 fn print_group(k: usize, x: GroupLine)
     requires { ⌜ (k < 64) × (0 < x .size) ⌝ }
 {
     print(b"group ");
-    number(k as u64 + 1, b": depot");
-    if x.size == 1 {
-        print_one(x);
-    } else {
-        print_several(x);
-    }
+    number(k as u64 + 1, b": ");
+    print_carriers(x.size, x.depots);
+    print_litres(x.litres);
+    print_each(x.litres, x.size);
+    print(b"\n");
 }
 
-fn print_part(x: Part, size: u64, after: &[u8])
+fn print_part(x: Part, size: u64)
     requires { ⌜ 0 < size ⌝ }
 {
     print(b"depot ");
     number(x.depot as u64, b" brings ");
-    print_mixed(x.share, size, after);
+    print_mixed(x.share, size);
 }
 
-// An own site has one depot to print.
-fn print_parts(x: SiteLine)
-    requires { ⌜ 0 < x .size ⌝ }
+// Prints the second depot's part: an own site has none.
+fn print_second(first: u8, x: Part, size: u64)
+    requires { ⌜ 0 < size ⌝ }
 {
-    if x.first.depot != x.second.depot {
-        print_part(x.first, x.size, b", ");
-        print_part(x.second, x.size, b" of ");
-    } else {
-        print_part(x.first, x.size, b" of ");
+    if first != x.depot {
+        print(b", ");
+        print_part(x, size);
     }
 }
 
@@ -222,97 +118,91 @@ fn print_site(i: usize, x: SiteLine)
 {
     print(b"site ");
     number(i as u64, b": ");
-    print_parts(x);
-    print_litres(x.litres, b"\n");
+    print_part(x.first, x.size);
+    print_second(x.first.depot, x.second, x.size);
+    print(b" of ");
+    print_litres(x.litres);
+    print(b"\n");
 }
 
 // Prints how many sites, listed depots and groups there are.
-fn print_counts(list: ListArray, groups: usize)
-    requires { ⌜ (list .count ≤ 512) × T (depotsInRange (listing list)) ⌝ }
-{
-    count(list.count as u64, b" site, ", b" sites, ");
-    count(sets::size(tables::listed(list)), b" depot, ", b" depots, ");
-    count(groups as u64, b" group\n", b" groups\n");
+fn print_counts(sites: u64, depots: u64, groups: u64) {
+    count(sites, b" site, ", b" sites, ");
+    count(depots, b" depot, ", b" depots, ");
+    count(groups, b" group\n", b" groups\n");
 }
 
-fn print_groups(list: ListArray, plan: PlanArray, litres: &[u64], sizes: &[u64])
-    requires { ⌜ Weighed list plan (now litres) (now sizes) ⌝ }
+fn print_groups(x: Figures)
+    requires { ⌜ Computed x ⌝ }
 {
     let mut k: usize = 0;
-    while k < plan.count {
-        print_group(k, group_line(list, plan, litres, sizes, k));
+    while k < x.plan.count {
+        print_group(k, lines::group_line(x, k));
         k += 1;
     }
 }
 
-fn print_sites(list: ListArray, plan: PlanArray, places: &[u8], sizes: &[u64])
-    requires { ⌜ Charted list plan (now places) (now sizes) ⌝ }
+fn print_sites(x: Figures)
+    requires { ⌜ Computed x ⌝ }
 {
     let mut i: usize = 0;
-    while i < list.count {
-        print_site(i, site_line(list, plan, places, sizes, i));
+    while i < x.list.count {
+        print_site(i, lines::site_line(x, i));
         i += 1;
     }
 }
 
 // Prints a list with the plan that was made for it.
-fn print_plan(list: ListArray, plan: PlanArray)
-    requires { ⌜ (list .count ≤ 512) × T (depotsInRange (listing list)) ⌝ }
-    requires { ⌜ Planned list plan ⌝ }
+fn print_plan(x: Figures)
+    requires { ⌜ Computed x ⌝ }
 {
-    let n = plan.count;
-    let sets = plan.groups;
-    let groups = &sets[..n];
-    let places = tables::places(groups);
-    let sizes = tables::sizes(groups);
-    let litres = tables::litres(list, &places);
-    print_counts(list, n);
-    print_groups(list, plan, &litres, &sizes);
-    print_sites(list, plan, &places, &sizes);
+    let depots = sets::size(tables::listed(x.list));
+    print_counts(x.list.count as u64, depots, x.plan.count as u64);
+    print_groups(x);
+    print_sites(x);
 }
 
-// Prints what the rows of a list's head mean.
+// Prints the text where it is that of the row.
+fn explain(row: u8, of: u8, text: &[u8]) {
+    if row == of {
+        print(text);
+    }
+}
+
+// Prints what a row of a list's head means.
 fn print_head_row(row: u8) {
-    match row {
-        1 => print(b"the list has under 4 bytes or does not begin with 4C 53\n"),
-        2 => print(b"the list has more than 512 sites\n"),
-        _ => print(b"the list's length is not 4 + 6 x sites\n"),
-    }
+    explain(
+        row,
+        1,
+        b"the list has under 4 bytes or does not begin with 4C 53\n",
+    );
+    explain(row, 2, b"the list has more than 512 sites\n");
+    explain(row, 3, b"the list's length is not 4 + 6 x sites\n");
 }
 
-// Prints what the rows of a list's sites mean.
+// Prints what a row of a list's sites means.
 fn print_site_row(row: u8) {
-    match row {
-        4 => print(b"a site does not begin with 53 54\n"),
-        5 => print(b"a site names a depot above 63\n"),
-        6 => print(b"a site has 0 litres\n"),
-        _ => print(b"the list cannot be read\n"),
-    }
+    explain(row, 4, b"a site does not begin with 53 54\n");
+    explain(row, 5, b"a site names a depot above 63\n");
+    explain(row, 6, b"a site has 0 litres\n");
 }
 
 // Prints the row that refuses a list, and what it means.
-fn print_refusal(answer: Read) {
-    if let Read::Refused(row) = answer {
-        print(b"refused ");
-        number(row as u64, b": ");
-        match row {
-            1 | 2 | 3 => print_head_row(row),
-            _ => print_site_row(row),
-        }
-    }
+fn print_refusal(row: u8) {
+    print(b"refused ");
+    number(row as u64, b": ");
+    print_head_row(row);
+    print_site_row(row);
 }
 
 // Prints what the program says of a list.
-pub fn show(input: &[u8]) {
-    let found = readers::list::read(records::edition1(), 512, input);
+fn show(input: &[u8]) {
+    let found = figures::read(input);
     let answer = found.answer;
-    let Read::Count(_) = answer else {
-        print_refusal(answer);
-        return;
-    };
-    let list = found.list;
-    let plan = maker::make_plan(list);
-    print_plan(list, plan);
+    match answer {
+        Read::Count(_) => print_plan(found.figures),
+        Read::Refused(row) => print_refusal(row),
+    }
 }
 
 fn main() {

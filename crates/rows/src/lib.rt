@@ -61,7 +61,8 @@ fn pick(test: bool, x: u64, y: u64) -> u64
     if test { x } else { y }
 }
 
-// Does a site's share break a rule? Its depots have the places a and b, all is w × q: the share is all of it where the second depot is earlier or the first one too, and nothing where the first is earlier.
+// Does a site's share break a rule? The groups of its depots have the places a and b, all is w × q. The share is all of it where the second depot's group is earlier or both depots are one,
+// 0 where the first depot's group is earlier, otherwise at most all.
 pub fn is_broken(s: Site, a: u8, b: u8, all: u64, share: u64) -> bool
     ensures { λ r. ⌜ ((N : Network) (gs ss : List ℕ) (i : ℕ) → Entry N gs ss i s a b all share → r ≡ shareBroken N gs ss i) ⌝ }
 {

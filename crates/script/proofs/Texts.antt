@@ -2,12 +2,15 @@
 -- Assumes nothing.
 use Prim.Native.Nat.{ℕ, zero, suc, _+_, _*_, _/_, _%_, _<_}
 use mathlib.Core.Path.{_≡_, refl}
+use mathlib.Core.Bool.{Bool, true, false}
 use mathlib.Core.List.{List, [], _∷_}
+use lib.Dec.{eqb}
 use native.Mathlib.Omega.{arith}
 use native.Mathlib.Numerals.{add-one}
-use lib.ListN.{length, getD, set, take, length-set}
-use lib.Seq.{take-suc, take-suc-set}
-use Rattle.script.specs.Hex.{glyphOf, digitsOf, byteOf, bytesOf}
+use lib.ListN.{length, getD, set, take, drop, length-set}
+use lib.Seq.{take-suc, take-suc-set, drop-cons, drop-length}
+use borrow.Author.Tests.{eq-eqb, ne-eqb, lt-ltb}
+use Rattle.script.specs.Hex.{digitOf, glyphOf, digitsOf, byteOf, bytesOf, allDigits, isNone, isBytes}
 
 -- one more element at the front is that of xs
 pub front-next : (out xs : List ℕ) (k v : ℕ) → k < length out → k < length xs → v ≡ getD xs k 0 → take k out ≡ take k xs → take (k + 1) (set out k v) ≡ take (k + 1) xs
@@ -55,3 +58,43 @@ bytes-at (high ∷ low ∷ text) (suc i) h =
     let e : 2 * suc i ≡ suc (suc (2 * i)) = omega arith in
     let f : 2 * suc i + 1 ≡ suc (suc (2 * i + 1)) = omega arith in
     (omega (arith, r .0), rw (f, e) (r .1))
+
+-- d is the digit at i
+module _ (text : List ℕ) (i d : ℕ) (h : i < length text) (e : d ≡ digitOf (getD text i 0)) where
+  pub all-next : (d ≡ 16 → ⊥) → allDigits (drop i text) ≡ allDigits (drop (i + 1) text)
+  unfolding allDigits
+  all-next a = rw (add-one, drop-cons text i 0) (simp (← e, ne-eqb _ _ a))
+
+  pub all-broken : d ≡ 16 → allDigits (drop i text) ≡ false
+  unfolding allDigits
+  all-broken a = rw (drop-cons text i 0) (simp (← e, eq-eqb _ _ a))
+
+pub all-end : (text : List ℕ) (i : ℕ) → i ≡ length text → allDigits (drop i text) ≡ true
+unfolding allDigits
+all-end text i h = rw (h, drop-length)
+
+pub none-other : (text : List ℕ) → (length text ≡ 1 → ⊥) → isNone text ≡ false
+unfolding isNone
+none-other [] h = refl
+none-other (b ∷ []) h = absurd (h refl)
+none-other (b ∷ c ∷ text) h = refl
+
+pub none-one : (text : List ℕ) → length text ≡ 1 → isNone text ≡ eqb (getD text 0 0) 45
+unfolding isNone
+none-one [] h = absurd (omega arith)
+none-one (b ∷ []) h = refl
+none-one (b ∷ c ∷ text) h = absurd (omega arith)
+
+-- n tells whether the word is `-`
+module _ (text : List ℕ) (n : Bool) (e : n ≡ isNone text) where
+  pub bytes-none : n ≡ true → true ≡ isBytes text
+  bytes-none a = simp (← e, a)
+
+  pub bytes-empty : n ≡ false → length text ≡ 0 → false ≡ isBytes text
+  bytes-empty a b = simp (← e, a, b)
+
+  pub bytes-odd : n ≡ false → (length text ≡ 0 → ⊥) → (length text % 2 ≡ 0 → ⊥) → false ≡ isBytes text
+  bytes-odd a b c = simp (← e, a, lt-ltb 0 (length text) (omega arith), ne-eqb (length text % 2) 0 c)
+
+  pub bytes-digits : n ≡ false → (length text ≡ 0 → ⊥) → length text % 2 ≡ 0 → allDigits text ≡ isBytes text
+  bytes-digits a b c = simp (← e, a, lt-ltb 0 (length text) (omega arith), eq-eqb (length text % 2) 0 c)

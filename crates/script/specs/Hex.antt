@@ -1,8 +1,9 @@
 -- Hexadecimal digits.
 use Prim.Native.Nat.{ℕ, _+_, _*_, _-_, _/_, _%_}
-use mathlib.Core.Bool.{cond}
+use mathlib.Core.Bool.{Bool, true, false, _&&_, _||_, not, cond}
 use mathlib.Core.List.{List, [], _∷_}
-use lib.Dec.{ltb}
+use lib.Dec.{ltb, eqb}
+use lib.ListN.{length}
 
 -- what a hexadecimal digit, in ASCII, stands for: `0` to `9` from 48 on, `A` to `F` from 65 on, `a` to `f` from 97 on; 16 for any other byte
 unfoldable pub digitOf : ℕ → ℕ
@@ -33,3 +34,18 @@ unfoldable pub bytesOf : List ℕ → List ℕ
 bytesOf [] = []
 bytesOf (high ∷ []) = []
 bytesOf (high ∷ low ∷ text) = byteOf high low ∷ bytesOf text
+
+-- are all bytes hexadecimal digits?
+unfoldable pub allDigits : List ℕ → Bool
+allDigits [] = true
+allDigits (b ∷ text) = not (eqb (digitOf b) 16) && allDigits text
+
+-- is the word `-` (byte 45), which stands for no bytes?
+unfoldable pub isNone : List ℕ → Bool
+isNone [] = false
+isNone (b ∷ []) = eqb b 45
+isNone (b ∷ c ∷ text) = false
+
+-- does the word stand for bytes: `-`, or an even number of hexadecimal digits, at least 2?
+abbrev pub isBytes : List ℕ → Bool
+isBytes text = isNone text || (ltb 0 (length text) && eqb (length text % 2) 0 && allDigits text)

@@ -1,2 +1,4 @@
 pub mod Hex
 pub mod Decimal
+pub mod Words
+pub mod Ascii

@@ -1,10 +1,11 @@
 // Lines of a script: words, bytes in hexadecimal, decimal numbers, and a line put together byte by byte.
 ghost use mathlib.Core.Path.{_≡_};
 ghost use Prim.Native.Nat.{_≤_, _<_, _*_, _/_, min};
-ghost use lib.ListN.{length, take};
+ghost use lib.ListN.{length, take, drop};
 ghost use Rattle.io.specs.Counts.{Counts};
-ghost use Rattle.script.specs.Hex.{digitOf, glyphOf, digitsOf, byteOf, bytesOf};
+ghost use Rattle.script.specs.Hex.{digitOf, glyphOf, digitsOf, byteOf, bytesOf, allDigits, isNone, isBytes};
 ghost use Rattle.script.specs.Decimal.{numberOf};
+ghost use Rattle.script.specs.Words.{trimmedOf, lettersOf, behindOf, wordOf, restOf};
 
 // A number, or none that fits its place.
 pub enum Number {
@@ -48,6 +49,7 @@ pub fn glyph(d: u8) -> u8
 // How many spaces stand at the front.
 fn spaces(s: &[u8]) -> usize
     ensures { λ r. ⌜ r ≤ length (now (s .entry)) ⌝ }
+    ensures { λ r. ⌜ drop r (now (s .entry)) ≡ trimmedOf (now (s .entry)) ⌝ }
 {
     let mut i = 0;
     while i < s.len() {
@@ -62,6 +64,8 @@ fn spaces(s: &[u8]) -> usize
 // How many bytes stand before the first space, or before the end.
 fn letters(s: &[u8]) -> usize
     ensures { λ r. ⌜ Counts r (now (s .entry)) ⌝ }
+    ensures { λ r. ⌜ take r (now (s .entry)) ≡ lettersOf (now (s .entry)) ⌝ }
+    ensures { λ r. ⌜ drop r (now (s .entry)) ≡ behindOf (now (s .entry)) ⌝ }
 {
     let mut i = 0;
     while i < s.len() {
@@ -74,25 +78,35 @@ fn letters(s: &[u8]) -> usize
 }
 
 // What stands behind the spaces at the front.
-pub fn trimmed(s: &[u8]) -> &[u8] {
+fn trimmed(s: &[u8]) -> &[u8]
+    ensures { λ r. ⌜ now r ≡ trimmedOf (now (s .entry)) ⌝ }
+{
     let n = spaces(s);
     &s[n..]
 }
 
-// The first word, of a text that does not begin with a space.
-pub fn word(s: &[u8]) -> &[u8] {
-    let n = letters(s);
-    &s[..n]
+// The first word; nothing where there is none.
+pub fn word(s: &[u8]) -> &[u8]
+    ensures { λ r. ⌜ now r ≡ wordOf (now (s .entry)) ⌝ }
+{
+    let t = trimmed(s);
+    let n = letters(t);
+    &t[..n]
 }
 
-// What stands behind the first word and the spaces after it.
-pub fn rest(s: &[u8]) -> &[u8] {
-    let n = letters(s);
-    trimmed(&s[n..])
+// What stands behind the first word.
+pub fn rest(s: &[u8]) -> &[u8]
+    ensures { λ r. ⌜ now r ≡ restOf (now (s .entry)) ⌝ }
+{
+    let t = trimmed(s);
+    let n = letters(t);
+    &t[n..]
 }
 
 // Are all bytes hexadecimal digits?
-fn digits(text: &[u8]) -> bool {
+fn digits(text: &[u8]) -> bool
+    ensures { λ r. ⌜ r ≡ allDigits (now (text .entry)) ⌝ }
+{
     let mut i = 0;
     while i < text.len() {
         if digit(text[i]) == 16 {
@@ -104,7 +118,9 @@ fn digits(text: &[u8]) -> bool {
 }
 
 // Is the word `-`, which stands for no bytes?
-pub fn is_none(text: &[u8]) -> bool {
+pub fn is_none(text: &[u8]) -> bool
+    ensures { λ r. ⌜ r ≡ isNone (now (text .entry)) ⌝ }
+{
     if text.len() != 1 {
         return false;
     }
@@ -112,7 +128,9 @@ pub fn is_none(text: &[u8]) -> bool {
 }
 
 // Does the word stand for bytes: `-`, or two digits for each byte?
-pub fn is_bytes(text: &[u8]) -> bool {
+pub fn is_bytes(text: &[u8]) -> bool
+    ensures { λ r. ⌜ r ≡ isBytes (now (text .entry)) ⌝ }
+{
     if is_none(text) {
         return true;
     }

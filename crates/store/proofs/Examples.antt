@@ -1,4 +1,4 @@
--- T and two own sites of 4: a history with its replies, and replies of wrong stores, which no model gives. Assumes nothing.
+-- T and two own sites of 4: histories with their replies, the rows of every call among them, and replies of wrong stores, which no model gives. Assumes nothing.
 use mathlib.Core.Path.{_≡_, refl, sym, ap, ap₂, _∙_, subst}
 use mathlib.Core.Logic.{inl, inr, ⊎-elim}
 use mathlib.Core.Bool.{Bool, true, _&&_}
@@ -29,7 +29,7 @@ use Rattle.records.specs.Format.{edition1}
 use Rattle.records.specs.Write.{planBytes}
 use Rattle.records.proofs.Samples.{marked1}
 use Rattle.store.specs.declared.Request.{Request}
-use Rattle.store.specs.declared.Request.the-variants.{Load, Change, Propose, Share, Depot, Difference, Written}
+use Rattle.store.specs.declared.Request.the-variants.{Load, Change, Add, Propose, Share, Depot, Difference, Written}
 use Rattle.store.specs.Calls.{Call, Reply, Told, refused, done, shared, loaded, differ, wrote}
 use Rattle.judge.specs.Check.{True}
 use Rattle.store.specs.Model.{Model, emptyModel, Proposes, turned, turn, modelRows}
@@ -244,6 +244,109 @@ modelled-O : Modelled edition1 2 callsO repliesO loadedO
 modelled-O =
     then loads-O (then (refuses sitesO none (getD callsO 1 (call Load [] []) .input) 16 in-range-O (lit≤ tt) refuses-O) (then wants-O (then accepts-O (then changes-O (then wants-O start)))))
 
+-- ---- the rows of the calls: T on a desk of two places; where two rows apply, the first is given
+
+abbrev added : Model
+added = model (pair 0 1 10 ∷ pair 0 1 1 ∷ []) none
+
+abbrev callsR : List Call
+callsR =
+    call (Share 0) [] []
+    ∷ call Load listT []
+    ∷ call (Change 1 0) [] []
+    ∷ call (Change 1 5) [] []
+    ∷ call (Add 64 0 0) [] []
+    ∷ call (Add 0 1 0) [] []
+    ∷ call (Add 0 1 1) [] []
+    ∷ call (Add 64 0 0) [] []
+    ∷ call Load listT []
+    ∷ call Propose (planT 0x0A) []
+    ∷ call (Share 1) [] []
+    ∷ call (Depot 2) [] []
+    ∷ call (Difference 0 2) [] []
+    ∷ call Written [] (replicate 20 7)
+    ∷ []
+
+abbrev repliesR : List Reply
+repliesR =
+    reply (refused 17) []
+    ∷ reply done []
+    ∷ reply (refused 6) []
+    ∷ reply (refused 18) []
+    ∷ reply (refused 5) []
+    ∷ reply (refused 6) []
+    ∷ reply done []
+    ∷ reply (refused 2) []
+    ∷ reply done []
+    ∷ reply done []
+    ∷ reply (refused 18) []
+    ∷ reply (refused 19) []
+    ∷ reply (refused 19) []
+    ∷ reply (refused 20) (replicate 20 7)
+    ∷ []
+
+-- the reply to a call that leaves the model
+abbrev Leaves : Model → Request → List ℕ → ℕ → Type 0
+Leaves b q buffer n = turned b (reply (refused n) buffer) ≡ turn b (call q [] buffer)
+
+first-17 : Leaves emptyT (Share 0) [] 17
+unfolding firstRow
+first-17 = refl
+
+change-6 : Leaves loadedT (Change 1 0) [] 6
+unfolding firstRow
+change-6 = refl
+
+change-18 : Leaves loadedT (Change 1 5) [] 18
+unfolding firstRow
+change-18 = refl
+
+add-5 : Leaves loadedT (Add 64 0 0) [] 5
+unfolding firstRow
+add-5 = refl
+
+add-6 : Leaves loadedT (Add 0 1 0) [] 6
+unfolding firstRow
+add-6 = refl
+
+adds : turned added (reply done []) ≡ turn loadedT (call (Add 0 1 1) [] [])
+unfolding firstRow
+adds = refl
+
+add-2 : Leaves added (Add 64 0 0) [] 2
+unfolding firstRow
+add-2 = refl
+
+loads-again : turned loadedT (reply done []) ≡ turn added (call Load listT [])
+unfolding firstRow value records any
+loads-again = refl
+
+share-18 : Leaves plannedT (Share 1) [] 18
+unfolding firstRow
+share-18 = refl
+
+depot-19 : Leaves plannedT (Depot 2) [] 19
+unfolding firstRow network any
+depot-19 = refl
+
+difference-19 : Leaves plannedT (Difference 0 2) [] 19
+unfolding firstRow network any
+difference-19 = refl
+
+written-20 : Leaves plannedT Written (replicate 20 7) 20
+unfolding firstRow planBytes le flatMap
+written-20 = refl
+
+modelled-R : Modelled edition1 2 callsR repliesR plannedT
+modelled-R =
+    then first-17
+    (then loads-T
+    (then change-6
+    (then change-18
+    (then add-5
+    (then add-6
+    (then adds (then add-2 (then loads-again (then accepts-T (then share-18 (then depot-19 (then difference-19 (then written-20 start)))))))))))))
+
 -- ---- the store's history has these replies
 
 -- inputs tested to be of bytes
@@ -278,6 +381,10 @@ history-T = has-history callsT repliesT plannedT modelled-T (are-all callsT tt)
 pub history-O : (x y : Site) → (s : State) × History edition1 (x ∷ y ∷ []) callsO repliesO s × (modelOf s ≡ loadedO)
 unfolding inputs all
 history-O = has-history callsO repliesO loadedO modelled-O (are-all callsO tt)
+
+pub history-R : (x y : Site) → (s : State) × History edition1 (x ∷ y ∷ []) callsR repliesR s × (modelOf s ≡ plannedT)
+unfolding inputs all
+history-R = has-history callsR repliesR plannedT modelled-R (are-all callsR tt)
 
 -- ---- what no model answers, and so no history has
 

@@ -8,15 +8,16 @@ use Prim.Native.Nat.{ℕ, _*_}
 use native.Mathlib.Omega.{arith}
 use lib.Dec.{leb, ltb}
 use lib.IntN.{ℤ}
-use lib.ListN.{length}
+use lib.ListN.{length, getD, replicate, length-replicate}
 use Rattle.density.specs.declared.Site.{Site}
-use Rattle.density.specs.Network.{Network, network}
+use Rattle.density.specs.Network.{Network, network, noSite}
 use Rattle.density.specs.Groups.{Decomposition}
 use Rattle.density.specs.Plan.{place, groupLitres, groupSize}
 use Rattle.density.specs.Rows.{firstRow}
 use Rattle.density.specs.Figures.{depotLitres, depotSize, siteWhole, difference, divisor, differenceOf}
 use Rattle.density.proofs.Figures.{depot-litres, depot-size, site-whole}
 use Rattle.records.specs.declared.Edition.{Edition}
+use Rattle.records.specs.Bytes.{Bytes}
 use Rattle.records.specs.Values.{Plan}
 use Rattle.records.specs.Format.{edition1}
 use Rattle.records.specs.Write.{planBytes}
@@ -29,10 +30,10 @@ use Rattle.judge.specs.Check.{True}
 use Rattle.store.specs.Model.{Model, missing, held, count, unlisted, rowsOf, modelRows, Turn, Turns, Proposes, SaysOf, Says, grantOf, settled, turned}
 use Rattle.held_state.specs.Held.{State, planHeld, listOf, corrupt}
 use Rattle.store.specs.State.{Done, modelOf, fresh, effectOf, refusal, settle, step}
-use Rattle.store.specs.Trace.{Run, start, then, Steps, History, AllBytes, after, passedSince, Question, Each, Exact}
+use Rattle.store.specs.Trace.{Run, start, then, Steps, History, Modelled, AllBytes, after, passedSince, Question, Each, Exact}
 use Rattle.store.proofs.Rules.{granted-not-refused}
 use Rattle.store.proofs.Steps.{Holds, holds-valid, Fed, fed, fresh-holds, row-zero-off, kept, not-zero}
-use Rattle.store.proofs.OneModel.{one-run, one-model}
+use Rattle.store.proofs.OneModel.{one-run, one-model, one-says}
 
 -- ---- a run of steps is a run of the model
 
@@ -146,8 +147,9 @@ module _ (b : Model) (c : Call) (r : Reply) (b' : Model) where
   loaded-is d w q none e a = (cc, cc)
   loaded-is d w q (some n) e a = absurd (let z : _≡_ {A = ℕ} 0 1 = cc in omega arith)
 
-  shared-is : (i x w : ℕ) (o : Option ℕ) → r .answer ≡ answerTo (Share i) o → r .answer ≡ shared x w → w ≡ siteWhole (network (b .list)) i
-  shared-is i x w none e a = cc
+  shared-is : (i x w : ℕ) (o : Option ℕ) → r .answer ≡ answerTo (Share i) o → r .answer ≡ shared x w
+      → (x ≡ getD (held (b .plan) .shares) i 0) × (w ≡ siteWhole (network (b .list)) i)
+  shared-is i x w none e a = (cc, cc)
   shared-is i x w (some n) e a = absurd (let z : _≡_ {A = ℕ} 0 1 = cc in omega arith)
 
   differ-is : (x y : ℕ) (z : ℤ) (q : ℕ) (o : Option ℕ) → r .answer ≡ answerTo (Difference x y) o → r .answer ≡ differ z q
@@ -200,7 +202,7 @@ module _ {e : Edition} (m : Marked e) {table : List Site} {calls : List Call} {r
       loaded-is b c r (modelOf s') d w q (firstRow (rowsOf b c (Depot d))) (answer-to b c r (modelOf s') (Depot d) k (says-to c r s' (Depot d) k tt x)) a
 
   site-says : (c : Call) (i : ℕ) (r : Reply) (s' : State) (y w : ℕ) → c .request ≡ Share i → Steps s c r s' → r .answer ≡ shared y w
-      → w ≡ siteWhole (network (b .list)) i
+      → (y ≡ getD (held (b .plan) .shares) i 0) × (w ≡ siteWhole (network (b .list)) i)
   site-says c i r s' y w k x a =
       shared-is b c r (modelOf s') i y w (firstRow (rowsOf b c (Share i))) (answer-to b c r (modelOf s') (Share i) k (says-to c r s' (Share i) k tt x)) a
 
@@ -231,7 +233,8 @@ module _ {e : Edition} (m : Marked e) {table : List Site} {calls : List Call} {r
             let f = depot-says c d r s' w q k x a in
             (f .0 ∙ sym (depot-litres (network (b .list)) ok gs dec d), f .1 ∙ sym (depot-size (network (b .list)) ok gs dec d));
         site-figures = λ c i r s' y w k x a gs dec.
-            site-says c i r s' y w k x a ∙ sym (site-whole (network (b .list)) (holds-valid s (final .holds)) gs dec i);
+            let f = site-says c i r s' y w k x a in
+            (f .0, f .1 ∙ sym (site-whole (network (b .list)) (holds-valid s (final .holds)) gs dec i));
         differences = λ c y d r s' z q k x a gs dec.
             let f = difference-says c y d r s' z q k x a in
             let g = difference-is s (final .holds) gs dec y d in
@@ -246,6 +249,20 @@ runs s (c ∷ cs) = let (rs, s', run) = runs (step s c .after) cs in (step s c .
 pub history : (e : Edition) → Marked e → (table : List Site) (calls : List Call) → AllBytes calls
     → (replies : List Reply) × (s : State) × History e table calls replies s × Exact e table calls replies s
 history e m table calls bytes = let (rs, s, run) = runs (fresh e table) calls in (rs, s, run, exact m run bytes)
+
+-- The model has exactly one reply to a call, after any calls.
+pub one-reply : {e : Edition} → Marked e → {places : ℕ} {calls : List Call} {replies : List Reply} {b : Model} → Modelled e places calls replies b
+    → AllBytes calls → (c : Call) → Bytes (c .input)
+    → (r : Reply) × (b' : Model) × Says b c r b' × ((r₂ : Reply) (b₂ : Model) → Says b c r₂ b₂ → (r₂ ≡ r) × (b₂ ≡ b'))
+one-reply {e} m {places} {calls} {replies} {b} run bytes c f =
+    let table = replicate places noSite in
+    let (rs, s, h, x) = history e m table calls bytes in
+    let same = x .only replies b (subst (λ (n : ℕ). Modelled e n calls replies b) (sym (length-replicate places noSite)) run) .1 in
+    let r = step s c .reply in
+    let b' = modelOf (step s c .after) in
+    let says : Says b c r b' =
+    subst (λ (b : Model). Says b c r b') (sym same) (said m h bytes c r (step s c .after) (fed (c .request) (c .input) f) refl) in
+    (r, b', says, λ r₂ b₂ y. one-says b c r₂ r b₂ b' y says)
 
 -- Demand 3 at edition 1: nothing is asked but that inputs are of bytes.
 pub history1 : (table : List Site) (calls : List Call) → AllBytes calls
@@ -286,7 +303,7 @@ same-figures m₁ m₂ h₁ b₁ h₂ b₂ l =
           let f₂ = depot-says m₂ h₂ b₂ c₂ d r₂ s₂' w₂ q₂ k₂ x₂ a₂ in
           (f₁ .0 ∙ ap (λ l. depotLitres (network l) d) l ∙ sym (f₂ .0), f₁ .1 ∙ ap (λ l. depotSize (network l) d) l ∙ sym (f₂ .1));
       site = λ c₁ c₂ i r₁ r₂ s₁' s₂' y₁ w₁ y₂ w₂ k₁ k₂ x₁ x₂ a₁ a₂.
-          site-says m₁ h₁ b₁ c₁ i r₁ s₁' y₁ w₁ k₁ x₁ a₁ ∙ ap (λ l. siteWhole (network l) i) l ∙ sym (site-says m₂ h₂ b₂ c₂ i r₂ s₂' y₂ w₂ k₂ x₂ a₂);
+          site-says m₁ h₁ b₁ c₁ i r₁ s₁' y₁ w₁ k₁ x₁ a₁ .1 ∙ ap (λ l. siteWhole (network l) i) l ∙ sym (site-says m₂ h₂ b₂ c₂ i r₂ s₂' y₂ w₂ k₂ x₂ a₂ .1);
       differences = λ c₁ c₂ a d r₁ r₂ s₁' s₂' z₁ q₁ z₂ q₂ k₁ k₂ x₁ x₂ a₁ a₂.
           let f₁ = difference-says m₁ h₁ b₁ c₁ a d r₁ s₁' z₁ q₁ k₁ x₁ a₁ in
           let f₂ = difference-says m₂ h₂ b₂ c₂ a d r₂ s₂' z₂ q₂ k₂ x₂ a₂ in

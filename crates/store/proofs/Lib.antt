@@ -4,6 +4,3 @@ pub mod Steps
 pub mod OneModel
 pub mod History
 pub mod Examples
-pub mod ServeRules
-pub mod ServeCalls
-pub mod ServeQuestions

@@ -2,4 +2,4 @@ pub mod Calls
 pub mod Model
 pub mod State
 pub mod Trace
-pub mod Serve
+pub mod Decide

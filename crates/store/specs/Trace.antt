@@ -5,7 +5,7 @@ use mathlib.Core.List.{List, [], _∷_}
 use mathlib.Core.Logic.{_↔_}
 use Prim.Native.Nat.{ℕ, _-_, _*_}
 use lib.IntN.{ℤ}
-use lib.ListN.{length, drop, replicate}
+use lib.ListN.{length, getD, drop, replicate}
 use Rattle.density.specs.declared.Site.{Site}
 use Rattle.density.specs.Network.{network}
 use Rattle.density.specs.Groups.{Decomposition}
@@ -18,7 +18,7 @@ use Rattle.store.specs.declared.Request.{Request}
 use Rattle.store.specs.declared.Request.the-variants.{Load, Change, Add, Propose, Share, Depot, Difference, Written}
 use Rattle.store.specs.Calls.{Call, Reply, Told, refused, done, shared, loaded, differ, wrote}
 use Rattle.judge.specs.Check.{True}
-use Rattle.store.specs.Model.{Model, emptyModel, Says}
+use Rattle.store.specs.Model.{Model, emptyModel, held, Says}
 use Rattle.held_state.specs.Held.{State}
 use Rattle.store.specs.State.{modelOf, fresh, step}
 
@@ -109,12 +109,13 @@ pub record Exact (e : Edition) (table : List Site) (calls : List Call) (replies 
   -- a proposal passes exactly if its plan is true of the list then held
   pub gate : (c : Call) (r : Reply) (s' : State) → c .request ≡ Propose → Bytes (c .input) → Steps s c r s'
       → (r .answer ≡ done) ↔ ((p : Plan) × True e (modelOf s .list) p (c .input))
-  -- each W, q, w × q and difference is that of the decomposition of the list held
+  -- each W, q, w × q and difference is that of the decomposition of the list held, and s is that of the plan held
   pub depot-figures : (c : Call) (d : ℕ) (r : Reply) (s' : State) (w q : ℕ) → c .request ≡ Depot d → Steps s c r s' → r .answer ≡ loaded w q
       → (gs : List ℕ) → Decomposition (network (modelOf s .list)) gs
       → (w ≡ groupLitres (network (modelOf s .list)) gs (place gs d)) × (q ≡ groupSize (network (modelOf s .list)) gs (place gs d))
   pub site-figures : (c : Call) (i : ℕ) (r : Reply) (s' : State) (x w : ℕ) → c .request ≡ Share i → Steps s c r s' → r .answer ≡ shared x w
-      → (gs : List ℕ) → Decomposition (network (modelOf s .list)) gs → w ≡ whole (network (modelOf s .list)) gs i
+      → (gs : List ℕ) → Decomposition (network (modelOf s .list)) gs
+      → (x ≡ getD (held (modelOf s .plan) .shares) i 0) × (w ≡ whole (network (modelOf s .list)) gs i)
   pub differences : (c : Call) (a d : ℕ) (r : Reply) (s' : State) (z : ℤ) (q : ℕ) → c .request ≡ Difference a d → Steps s c r s' → r .answer ≡ differ z q
       → (gs : List ℕ) → Decomposition (network (modelOf s .list)) gs
       → let W : ℕ → ℕ = λ x. groupLitres (network (modelOf s .list)) gs (place gs x) in

@@ -2,7 +2,7 @@
 use density::Site;
 use held_state::Store;
 
-pub mod serve;
+pub mod decide;
 
 // What a call asks for.
 pub enum Request {

@@ -1,5 +1,5 @@
 // Check and Make beside the plain count over all sets: every small list, and random ones.
-use exhaustive::groups;
+use exhaustive::has_groups;
 use exhaustive::is_true;
 use libc::STDOUT_FILENO;
 use networks::random;
@@ -107,18 +107,6 @@ fn made(list: ListArray, bytes: &[u8]) -> PlanArray {
     r.plan
 }
 
-fn same_groups(a: PlanArray, b: PlanArray) -> bool {
-    if a.count != b.count {
-        return false;
-    }
-    for k in 0..64 {
-        if a.groups[k] != b.groups[k] {
-            return false;
-        }
-    }
-    true
-}
-
 // Near misses of a plan, one of each five.
 fn near_misses(t: Tally, list: ListArray, bytes: &[u8], plan: PlanArray, from: usize) -> Tally {
     let most = variants(list, plan);
@@ -146,7 +134,7 @@ fn counted(t: Tally, fit: bool) -> Tally {
 
 fn is_fit(list: ListArray, plan: PlanArray) -> bool {
     if is_true(list, plan) {
-        return same_groups(plan, groups(list));
+        return has_groups(list, plan);
     }
     false
 }

@@ -3,15 +3,19 @@ use mathlib.Core.Path.{_≡_, sym, ap, _∙_}
 use mathlib.Core.Logic.{⊎-elim}
 use mathlib.Core.List.{List}
 use Prim.Native.Nat.{ℕ, _+_, _<_}
-use native.Mathlib.Nat.{add-zero}
+use native.Mathlib.Nat.{zero-add, add-zero}
 use native.Mathlib.Omega.{arith}
 use lib.Arith.{lt-of-le-ne}
 use lib.Dec.{T, eqb, eqb→eq}
-use lib.ListN.{length, getD, set, length-set}
+use lib.ListN.{length, getD, set, replicate, length-set, getD-replicate}
 use lib.Seq.{getD-set-same, getD-set-other}
 use Rattle.sets.specs.Sum.{when}
 use Rattle.sets.proofs.Test.{T?, eq→eqb, when-on, when-off, when-add}
 use Rattle.tables.specs.Tables.{Holds}
+
+-- what is added to an array that is all zero
+pub from-zero : (a : List ℕ) (f : ℕ → ℕ) → Holds a (λ k. getD (replicate 64 0) k 0 + f k) 64 → Holds a f 64
+from-zero a f h k l = h k l ∙ ap (λ n. n + f k) (getD-replicate 64 k 0 0 l) ∙ zero-add (f k)
 
 -- one place more
 pub holds-more : (a : List ℕ) (f : ℕ → ℕ) (k x : ℕ) → Holds a f k → k < length a → x ≡ f k → Holds (set a k x) f (k + 1)

@@ -19,18 +19,18 @@ use Rattle.tables.specs.declared.Tally.{Tally}
 use Rattle.tables.specs.Tables.{net, groupsIn, sharesIn, Holds, Ready, Tables, Tallied, Entry}
 use Rattle.tables.proofs.Arrays.{holds-more}
 use Rattle.tables.proofs.Shares.{size-few, product-lt, sites-count, later-lt, entry, placed}
-use Rattle.tables.proofs.Totals.{Summed, summed-start, summed-one, carried, litres-end}
+use Rattle.tables.proofs.Totals.{Summed, summed-zero, summed-one, carried, litres-end}
 
 -- the loop's invariant: what the first i sites add up to; none of their shares breaks a rule, if the groups are the listed depots
 pub record Pass (list : ListArray) (plan : PlanArray) (places litres wholes : List ℕ) (i : ℕ) : Type 0 where
-  pub litres-is : Summed (carried (list .sites) places) (2 ^ 32) litres i
+  pub litres-is : Summed (λ _. 0) (carried (list .sites) places) (2 ^ 32) litres i
   pub wide : length wholes ≡ 512
   pub wholes-is : Ready list plan → Holds wholes (whole (net list) (groupsIn list plan)) i
   pub unbroken : Ready list plan → any (shareBroken (net list) (groupsIn list plan) (sharesIn list plan)) i ≡ false
 
 pub pass-start : (list : ListArray) (plan : PlanArray) (places wholes : List ℕ) → length wholes ≡ 512 → Pass list plan places (replicate 64 0) wholes 0
 pass-start list plan places wholes wide =
-    record { litres-is = summed-start _ _; wide = wide; wholes-is = λ r k l. absurd (omega arith); unbroken = λ r. any-start _ }
+    record { litres-is = summed-zero _ _; wide = wide; wholes-is = λ r k l. absurd (omega arith); unbroken = λ r. any-start _ }
 
 -- w × q of a group is small, for any plan
 pub table-fits : (list : ListArray) (plan : PlanArray) (places sizes : List ℕ) → Tables list plan places sizes → (k w : ℕ) → k < plan .count → w < 2 ^ 32
@@ -75,7 +75,7 @@ module _ (list : ListArray) (plan : PlanArray) (shares places sizes : List ℕ) 
             → litres′ ≡ set litres k (getD litres k 0 + w) → wholes′ ≡ set wholes i all → Pass list plan places litres′ wholes′ (i + 1)
         pass-more litres litres′ wholes wholes′ h y m few p q =
             record {
-              litres-is = summed-one (carried (list .sites) places) (2 ^ 32) litres litres′ i k w (h .litres-is) m (le-of-suc-le (v .1)) p (λ j. rw (e, v .0));
+              litres-is = summed-one _ (carried (list .sites) places) (2 ^ 32) litres litres′ i k w (h .litres-is) m (le-of-suc-le (v .1)) p (λ j. rw (e, v .0));
               wide = ap length q ∙ length-set wholes i _ ∙ h .wide;
               wholes-is = λ r. rw q (holds-more wholes _ i _ (h .wholes-is r) (omega (arith, h .wide)) (sym (here r .whole)));
               unbroken = λ r. any-more _ i (h .unbroken r) (sym (b _ _ _ i (here r)) ∙ y);

@@ -4,6 +4,7 @@ use mathlib.Core.Logic.{⊎-elim}
 use mathlib.Core.Bool.{Bool, true, false, not, _&&_, and-false}
 use mathlib.Core.List.{List}
 use Prim.Native.Nat.{ℕ, _+_, _-_, _*_, _≤_, _<_, _^_, max}
+use native.Mathlib.Nat.{zero-add, add-zero}
 use native.Mathlib.Numerals.{add-one}
 use native.Mathlib.Omega.{arith}
 use borrow.Author.Tests.{eq-eqb, ne-eqb}
@@ -26,35 +27,39 @@ use Rattle.tables.proofs.Sites.{count-is, site-is, site-small}
 use Rattle.tables.proofs.Arrays.{added}
 use Rattle.tables.proofs.Shares.{sites-count, place-lt, entry-with, share-≤, whole-≤}
 
--- the array has, at each place k, the terms f k of the first i sites added up; a term is at most c
-pub record Summed (f : ℕ → ℕ → ℕ) (c : ℕ) (a : List ℕ) (i : ℕ) : Type 0 where
+-- the array has, at each place k, z k and the terms f k of the first i sites added up; a term is at most c
+pub record Summed (z : ℕ → ℕ) (f : ℕ → ℕ → ℕ) (c : ℕ) (a : List ℕ) (i : ℕ) : Type 0 where
   pub wide : length a ≡ 64
-  pub is : Holds a (λ k. sum (f k) i) 64
-  pub low : (k : ℕ) → k < 64 → getD a k 0 ≤ i * c
+  pub is : Holds a (λ k. z k + sum (f k) i) 64
+  pub low : (k : ℕ) → k < 64 → getD a k 0 ≤ z k + i * c
 
-pub summed-start : (f : ℕ → ℕ → ℕ) (c : ℕ) → Summed f c (replicate 64 0) 0
+pub summed-start : (z : ℕ → ℕ) (f : ℕ → ℕ → ℕ) (c : ℕ) (a : List ℕ) → length a ≡ 64 → Holds a z 64 → Summed z f c a 0
 unfolding sum
-summed-start f c = record { wide = refl; is = λ k l. getD-replicate 64 k 0 0 l; low = λ k l. omega (arith, getD-replicate {A = ℕ} 64 k 0 0 l) }
+summed-start z f c a w e = record { wide = w; is = λ k l. e k l ∙ sym (add-zero (z k)); low = λ k l. omega (arith, e k l) }
+
+-- an array that is all zero
+pub summed-zero : (f : ℕ → ℕ → ℕ) (c : ℕ) → Summed (λ _. 0) f c (replicate 64 0) 0
+summed-zero f c = summed-start _ f c _ refl (λ k l. getD-replicate 64 k 0 0 l)
 
 -- a site more
-pub summed-more : (f : ℕ → ℕ → ℕ) (c : ℕ) (a b : List ℕ) (i : ℕ) → Summed f c a i → length b ≡ 64
-    → ((k : ℕ) → k < 64 → getD b k 0 ≡ getD a k 0 + f k i) → ((k : ℕ) → k < 64 → f k i ≤ c) → Summed f c b (i + 1)
+pub summed-more : (z : ℕ → ℕ) (f : ℕ → ℕ → ℕ) (c : ℕ) (a b : List ℕ) (i : ℕ) → Summed z f c a i → length b ≡ 64
+    → ((k : ℕ) → k < 64 → getD b k 0 ≡ getD a k 0 + f k i) → ((k : ℕ) → k < 64 → f k i ≤ c) → Summed z f c b (i + 1)
 unfolding sum
-summed-more f c a b i h w e l =
+summed-more z f c a b i h w e l =
     record {
       wide = w;
-      is = λ k m. e k m ∙ ap (λ n. n + f k i) (h .is k m) ∙ sym (ap (sum (f k)) (add-one i));
+      is = λ k m. omega (arith, e k m, h .is k m, ap (sum (f k)) (add-one i));
       low = λ k m. omega (arith, e k m, h .low k m, l k m);
     }
 
 -- two sites more
-pub summed-pair : (f : ℕ → ℕ → ℕ) (c : ℕ) (a b : List ℕ) (i : ℕ) → Summed f c a i → length b ≡ 64
-    → ((k : ℕ) → k < 64 → getD b k 0 ≡ getD a k 0 + f k i + f k (i + 1)) → ((k : ℕ) → f k i ≤ c) → ((k : ℕ) → f k (i + 1) ≤ c) → Summed f c b (i + 2)
+pub summed-pair : (z : ℕ → ℕ) (f : ℕ → ℕ → ℕ) (c : ℕ) (a b : List ℕ) (i : ℕ) → Summed z f c a i → length b ≡ 64
+    → ((k : ℕ) → k < 64 → getD b k 0 ≡ getD a k 0 + f k i + f k (i + 1)) → ((k : ℕ) → f k i ≤ c) → ((k : ℕ) → f k (i + 1) ≤ c) → Summed z f c b (i + 2)
 unfolding sum
-summed-pair f c a b i h w e l l′ =
+summed-pair z f c a b i h w e l l′ =
     record {
       wide = w;
-      is = λ k m. e k m ∙ ap (λ n. n + f k i + f k (i + 1)) (h .is k m) ∙ sym (ap (sum (f k)) two ∙ ap (sum (f k)) (add-one (i + 1)) ∙ ap (λ n. sum (f k) n + f k (i + 1)) (add-one i));
+      is = λ k m. omega (arith, e k m, h .is k m, ap (sum (f k)) two ∙ ap (sum (f k)) (add-one (i + 1)) ∙ ap (λ n. sum (f k) n + f k (i + 1)) (add-one i));
       low = λ k m. omega (arith, e k m, h .low k m, l k, l′ k);
     }
   where
@@ -62,15 +67,15 @@ summed-pair f c a b i h w e l l′ =
     two = omega arith
 
 -- the last site's term at place k
-pub summed-last : (f : ℕ → ℕ → ℕ) (c : ℕ) (a : List ℕ) (i n : ℕ) → Summed f c a i → i + 1 ≡ n → (k x : ℕ) → k < 64 → x ≡ getD a k 0 + f k i → x ≡ sum (f k) n
+pub summed-last : (z : ℕ → ℕ) (f : ℕ → ℕ → ℕ) (c : ℕ) (a : List ℕ) (i n : ℕ) → Summed z f c a i → i + 1 ≡ n → (k x : ℕ) → k < 64 → x ≡ getD a k 0 + f k i → x ≡ z k + sum (f k) n
 unfolding sum
-summed-last f c a i n h q k x m e = e ∙ ap (λ y. y + f k i) (h .is k m) ∙ sym (ap (sum (f k)) (add-one i)) ∙ ap (sum (f k)) q
+summed-last z f c a i n h q k x m e = omega (arith, h .is k m, sym (ap (sum (f k)) q) ∙ ap (sum (f k)) (add-one i))
 
 -- one amount added
-pub summed-one : (f : ℕ → ℕ → ℕ) (c : ℕ) (a b : List ℕ) (i d x : ℕ) → Summed f c a i → d < 64 → x ≤ c → b ≡ set a d (getD a d 0 + x)
-    → ((k : ℕ) → f k i ≡ when (eqb d k) x) → Summed f c b (i + 1)
-summed-one f c a b i d x h l m e t =
-    summed-more f c a b i h (ap length e ∙ length-set a d _ ∙ h .wide)
+pub summed-one : (z : ℕ → ℕ) (f : ℕ → ℕ → ℕ) (c : ℕ) (a b : List ℕ) (i d x : ℕ) → Summed z f c a i → d < 64 → x ≤ c → b ≡ set a d (getD a d 0 + x)
+    → ((k : ℕ) → f k i ≡ when (eqb d k) x) → Summed z f c b (i + 1)
+summed-one z f c a b i d x h l m e t =
+    summed-more z f c a b i h (ap length e ∙ length-set a d _ ∙ h .wide)
     (λ k n. ap (λ (y : List ℕ). getD y k 0) e ∙ added a d x (omega (arith, h .wide)) k ∙ ap (λ n. getD a k 0 + n) (sym (t k)))
     (λ k n. omega (arith, t k, when-≤ (eqb d k) x))
 
@@ -81,13 +86,14 @@ abbrev pub carried : List Site → List ℕ → ℕ → ℕ → ℕ
 carried sites places k j =
     when (eqb (max (getD places (getD sites j noSite .first) 0) (getD places (getD sites j noSite .second) 0)) k) (getD sites j noSite .litres)
 
-pub litres-end : (list : ListArray) (places r : List ℕ) → Placed list places → (i : ℕ) → i ≡ list .count → Summed (carried (list .sites) places) (2 ^ 32) r i
+pub litres-end : (list : ListArray) (places r : List ℕ) → Placed list places → (i : ℕ) → i ≡ list .count → Summed (λ _. 0) (carried (list .sites) places) (2 ^ 32) r i
     → Litres list places r
 unfolding groupLitres carrier
 litres-end list places r p i e h =
     record {
       is = λ gs t k l.
           h .is k l
+          ∙ zero-add _
           ∙ sum-cong _ _ i
           (λ j m.
           let n : j < list .count = omega arith in

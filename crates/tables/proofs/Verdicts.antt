@@ -3,9 +3,9 @@ use mathlib.Core.Path.{_≡_, refl, sym, _∙_}
 use mathlib.Core.Bool.{Bool, true, false, cond}
 use mathlib.Core.List.{List}
 use mathlib.Core.Option.{Option, none, some}
-use Prim.Native.Nat.{ℕ, _<_, _^_}
+use Prim.Native.Nat.{ℕ, _+_, _<_, _^_}
 use native.Mathlib.Omega.{arith}
-use lib.ListN.{length, getD, take}
+use lib.ListN.{length, getD, take, replicate}
 use lib.Seq.{getD-take, length-take-le}
 use Rattle.sets.specs.Sum.{sum}
 use Rattle.sets.specs.Set.{setOf}
@@ -22,6 +22,7 @@ use Rattle.tables.specs.declared.Form.{Form}
 use Rattle.tables.specs.Verdict.{verdict}
 use Rattle.tables.specs.Tables.{net, groupsIn, sharesIn, Holds, Counted, Ready, Tables, Litres, Lent, Tallied, partOf, Parts, Levels, formRows, Kept, Formed, Small}
 use Rattle.density.proofs.Lists.{valid}
+use Rattle.tables.proofs.Arrays.{from-zero}
 use Rattle.tables.proofs.Groups.{unlisted-is, listed-is}
 use Rattle.tables.proofs.Shares.{sizes-few}
 use Rattle.tables.proofs.Totals.{parts, parts-load}
@@ -152,12 +153,12 @@ module _ {list : ListArray} {plan : PlanArray} {r : Form} {ws : List ℕ} (k : K
   pub kept-parts : Parts list shares ws
   kept-parts = parts list plan (k .ready) shares ws v (k .wholes) (k .shares)
 
-  pub kept-levels : (sums : List ℕ) → Holds sums (λ d. sum (partOf list shares ws d) (list .count)) 64 → Levels list plan (r .listed) (r .places) (r .litres) sums
+  pub kept-levels : (sums : List ℕ) → Holds sums (λ d. getD (replicate 64 0) d 0 + sum (partOf list shares ws d) (list .count)) 64 → Levels list plan (r .listed) (r .places) (r .litres) sums
   kept-levels sums h =
       record {
         ready = k .ready;
         listed = k .listed;
         place = k .tables .place;
         litres = k .litres .1;
-        loads = parts-load list plan (k .ready) shares ws v (k .wholes) sums h;
+        loads = parts-load list plan (k .ready) shares ws v (k .wholes) sums (from-zero sums _ h);
       }

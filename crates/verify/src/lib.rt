@@ -11,7 +11,8 @@ ghost use Rattle.density.specs.Rows.{firstRow, planRows};
 ghost use Rattle.tables.specs.Verdict.{verdict};
 ghost use Rattle.tables.specs.Tables.{net, groupsIn, sharesIn, Counted, Ready, Tables, Lent, Tallied, Formed};
 
-// One pass over the sites: the listed depots and W of each group; w × q of each site goes to `wholes`. It ends at a share that breaks a rule, and at a site without a group: there the groups are not the listed depots, and row 13 refuses the plan.
+// One pass over the sites: the listed depots and W of each group; w × q of each site goes to `wholes`.
+// It ends at a share that breaks a rule, and at a site without a group: there the groups are not the listed depots, and row 13 refuses the plan.
 fn add_up(
     list: ListArray,
     plan: PlanArray,

@@ -9,7 +9,7 @@ use lib.ListN.{set}
 use Rattle.sets.specs.Set.{has}
 use Rattle.sets.specs.Sum.{when}
 use Rattle.residual.specs.Array.{at, totalLoad}
-use Rattle.attempt.specs.Lay.{raise}
+use Rattle.lay_on.specs.Raise.{raise}
 use Rattle.attempt.proofs.Laws.{brought-fits}
 use Rattle.attempt.proofs.Laying.{brings-is}
 use Rattle.attempt.proofs.lay_site.Statement.{statement}

@@ -7,13 +7,13 @@ use Rattle.console.proofs.read_all.Statement.{statement}
 use Rattle.console.proofs.read_all.Tie as tie
 
 abbrev Inv-loop : tie.InvT-loop
-Inv-loop line₀ turn₀ turns₀ line turn turns = length line ≡ length line₀
+Inv-loop line₀ state₀ turns₀ line state turns = length line ≡ length line₀
 
 abbrev μ-loop : tie.MeasureT-loop
-μ-loop line₀ turn₀ turns₀ line turn turns = turns
+μ-loop line₀ state₀ turns₀ line state turns = turns
 
-desk-requires : tie.Need-desk-requires Inv-loop μ-loop
-desk-requires c κs = omega arith
+fresh-requires : tie.Need-fresh-requires Inv-loop μ-loop
+fresh-requires c κs = omega arith
 
 loop-holds : tie.Need-loop-holds Inv-loop μ-loop
 loop-holds c = refl
@@ -36,17 +36,25 @@ same-length c = omega arith
 returns : tie.Need-returns Inv-loop μ-loop
 returns c = tt
 
+same-length-2 : tie.Need-same-length-2 Inv-loop μ-loop
+same-length-2 c = omega arith
+
+returns-2 : tie.Need-returns-2 Inv-loop μ-loop
+returns-2 c = tt
+
 pub read-all-spec : {M : Type 1} → statement M
 read-all-spec =
     tie.close
     (tie.spec
     Inv-loop
     μ-loop
-    desk-requires
+    fresh-requires
     loop-holds
     read-piece-requires
     sub-turns
     loop-less
     loop-again
     same-length
-    returns)
+    returns
+    same-length-2
+    returns-2)

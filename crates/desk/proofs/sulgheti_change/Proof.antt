@@ -1,8 +1,8 @@
 -- `desk::sulgheti_change` meets its contract. Assumes nothing.
 use mathlib.Core.Path.{ap, _∙_}
-use Rattle.desk.specs.declared.Coded.{Coded}
+use Rattle.codes.specs.declared.Coded.{Coded}
 use Rattle.signed.proofs.Signed.{read-back}
-use Rattle.desk.proofs.DeskCodes.{did}
+use Rattle.codes.proofs.DeskCodes.{did}
 use borrow.Author.Needs.{needs}
 use Rattle.desk.proofs.sulgheti_change.Statement.{statement}
 use Rattle.desk.proofs.sulgheti_change.Tie as tie

@@ -2,8 +2,8 @@
 use mathlib.Core.Path.{sym, ap}
 use mathlib.Core.Bool.{Bool, cond}
 use lib.IntN.{pos}
-use Rattle.desk.specs.Codes.{rowCode}
-use Rattle.desk.proofs.DeskCodes.{fresh-code}
+use Rattle.codes.specs.Codes.{rowCode}
+use Rattle.codes.proofs.DeskCodes.{fresh-code}
 use borrow.Author.Needs.{needs}
 use Rattle.desk.proofs.sulgheti_fresh.Statement.{statement}
 use Rattle.desk.proofs.sulgheti_fresh.Tie as tie

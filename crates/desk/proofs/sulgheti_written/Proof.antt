@@ -1,7 +1,7 @@
 -- `desk::sulgheti_written` meets its contract. Assumes nothing.
 use mathlib.Core.Path.{_∙_}
 use Rattle.signed.proofs.Signed.{read-back}
-use Rattle.desk.proofs.DeskCodes.{wrote-out, length-held}
+use Rattle.codes.proofs.DeskCodes.{wrote-out, length-held}
 use borrow.Author.Needs.{needs}
 use Rattle.desk.proofs.sulgheti_written.Statement.{statement}
 use Rattle.desk.proofs.sulgheti_written.Tie as tie

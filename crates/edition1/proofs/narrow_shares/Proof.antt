@@ -1,22 +1,21 @@
 -- `edition1::narrow_shares` meets its contract. Assumes nothing.
-use mathlib.Core.Path.{_∙_}
 use Prim.Native.Nat.{ℕ, _-_, _<_, _^_}
 use native.Mathlib.Nat.{mod-eq-of-lt}
 use native.Mathlib.Omega.{arith}
-use lib.ListN.{getD, replicate, length-replicate}
-use Rattle.table.proofs.Overlay.{overlay-all}
-use Rattle.table.proofs.Copies.{Copied, copied-begins, copied-goes, copied-ends}
+use lib.ListN.{getD}
+use Rattle.table.proofs.Copies.{copied-goes}
+use Rattle.edition1.proofs.Edition1Widths.{CopiedAll, all-begins, all-ends}
 use Rattle.edition1.proofs.narrow_shares.Statement.{statement}
 use Rattle.edition1.proofs.narrow_shares.Tie as tie
 
 abbrev Inv-loop : tie.InvT-loop
-Inv-loop shares a₀ i₀ a i = Copied ((j : ℕ) → getD shares j 0 < 2 ^ 32) 512 shares (replicate 512 0) a i
+Inv-loop shares a₀ i₀ a i = CopiedAll ((j : ℕ) → getD shares j 0 < 2 ^ 32) 512 shares a i
 
 abbrev μ-loop : tie.MeasureT-loop
 μ-loop shares a₀ i₀ a i = 512 - i
 
 loop-holds : tie.Need-loop-holds Inv-loop μ-loop
-loop-holds c = copied-begins (omega (arith, c .good .0 .1 .0 .1)) (omega (arith, length-replicate {A = ℕ} 512 0))
+loop-holds c = all-begins (c .good .0 .1 .0 .1)
 
 mul-a : tie.Need-mul-a Inv-loop μ-loop
 mul-a c = omega arith
@@ -43,10 +42,7 @@ loop-again : tie.Need-loop-again Inv-loop μ-loop
 loop-again c = copied-goes 0 (c .before .loop .inv) (c .loop-test .taken) (λ f. mod-eq-of-lt (f (c .before .loop .i)))
 
 returns : tie.Need-returns Inv-loop μ-loop
-returns c = λ f.
-    let s = c .before .before in
-    copied-ends (c .before .loop .inv) (c .loop-test .left) f
-    ∙ overlay-all (s .args .t1) (replicate 512 0) 512 (omega (arith, s .good .0 .1 .0 .1)) (omega (arith, length-replicate {A = ℕ} 512 0))
+returns c = all-ends (c .before .before .good .0 .1 .0 .1) (c .before .loop .inv) (c .loop-test .left)
 
 pub narrow-shares-spec : {M : Type 1} → statement M
 narrow-shares-spec =

@@ -1,23 +1,22 @@
 -- `edition1::widen_shares` meets its contract. Assumes nothing.
-use mathlib.Core.Path.{refl, sym, subst, _∙_}
+use mathlib.Core.Path.{refl, sym, subst}
 use mathlib.Core.List.{List}
 use Prim.Native.Nat.{ℕ, _-_, _<_, _^_}
 use native.Mathlib.Omega.{arith}
-use lib.ListN.{getD, replicate, length-replicate}
-use Rattle.table.proofs.Overlay.{overlay-all}
-use Rattle.table.proofs.Copies.{Copied, copied-begins, copied-goes, copied-ends}
-use Rattle.edition1.proofs.Edition1Widths.{shares-fit}
+use lib.ListN.{getD}
+use Rattle.table.proofs.Copies.{copied-goes}
+use Rattle.edition1.proofs.Edition1Widths.{shares-fit, CopiedAll, all-begins, all-ends}
 use Rattle.edition1.proofs.widen_shares.Statement.{statement}
 use Rattle.edition1.proofs.widen_shares.Tie as tie
 
 abbrev Inv-loop : tie.InvT-loop
-Inv-loop shares a₀ i₀ a i = Copied (Unit {0}) 512 shares (replicate 512 0) a i
+Inv-loop shares a₀ i₀ a i = CopiedAll (Unit {0}) 512 shares a i
 
 abbrev μ-loop : tie.MeasureT-loop
 μ-loop shares a₀ i₀ a i = 512 - i
 
 loop-holds : tie.Need-loop-holds Inv-loop μ-loop
-loop-holds c = copied-begins (omega (arith, c .good .0 .1 .0 .1)) (omega (arith, length-replicate {A = ℕ} 512 0))
+loop-holds c = all-begins (c .good .0 .1 .0 .1)
 
 mul-a : tie.Need-mul-a Inv-loop μ-loop
 mul-a c = omega arith
@@ -46,8 +45,7 @@ loop-again c = copied-goes 0 (c .before .loop .inv) (c .loop-test .taken) (λ u.
 returns : tie.Need-returns Inv-loop μ-loop
 returns c =
     let s = c .before .before in
-    let e = copied-ends (c .before .loop .inv) (c .loop-test .left) tt
-    ∙ overlay-all (s .args .t1) (replicate 512 0) 512 (omega (arith, s .good .0 .1 .0 .1)) (omega (arith, length-replicate {A = ℕ} 512 0)) in
+    let e = all-ends (s .good .0 .1 .0 .1) (c .before .loop .inv) (c .loop-test .left) tt in
     (e, subst (λ (l : List ℕ). (i : ℕ) → getD l i 0 < 2 ^ 32) (sym e) (shares-fit 512 (s .args .t1) _ (s .good .0)))
 
 pub widen-shares-spec : {M : Type 1} → statement M

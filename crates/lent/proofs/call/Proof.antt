@@ -1,7 +1,7 @@
 -- `lent::call` meets its contract. Assumes nothing.
 use mathlib.Core.Path.{sym, _∙_}
 use native.Mathlib.Omega.{arith}
-use Rattle.lent.proofs.Served.{unsized, refuses, puts}
+use Rattle.lent.proofs.Served.{unsized, keeps, puts}
 use borrow.Author.Needs.{needs}
 use Rattle.lent.proofs.call.Statement.{statement}
 use Rattle.lent.proofs.call.Tie as tie
@@ -20,8 +20,8 @@ sites-in-requires c κs = search needs
 serve1-requires : tie.Need-serve1-requires
 serve1-requires c κs = search needs
 
-is-refused-requires : tie.Need-is-refused-requires
-is-refused-requires c κs = search needs
+is-kept-requires : tie.Need-is-kept-requires
+is-kept-requires c κs = search needs
 
 same-length : tie.Need-same-length
 same-length c = search needs
@@ -35,8 +35,8 @@ same-length-3 c = search needs
 returns-2 : tie.Need-returns-2
 returns-2 c =
     let a = c .before .before .before .before .before .before .before .before .before .before .before .before .before .before .before .args in
-    refuses (a .store .now) (a .table .now) (a .request) (a .input .now) (a .buffer .now) (c .before .before .before .before .before .before .before .before .before .before .if1 .left)
-    (c .before .before .before .before .before .before .before .before .store-in .ensures) (c .before .before .before .before .before .before .sites-in .ensures) (c .before .before .before .before .serve1 .ensures) (sym (c .before .is-refused .ensures) ∙ c .if2 .taken)
+    keeps (a .store .now) (a .table .now) (a .request) (a .input .now) (a .buffer .now) (c .before .before .before .before .before .before .before .before .before .before .if1 .left)
+    (c .before .before .before .before .before .before .before .before .store-in .ensures) (c .before .before .before .before .before .before .sites-in .ensures) (c .before .before .before .before .serve1 .ensures) (sym (c .before .is-kept .ensures) ∙ c .if2 .taken)
 
 put-sites-requires : tie.Need-put-sites-requires
 put-sites-requires c κs =
@@ -59,7 +59,7 @@ returns-3 : tie.Need-returns-3
 returns-3 c =
     let a = c .before .before .before .before .before .before .before .before .before .before .before .before .before .before .before .before .before .before .before .before .before .before .before .before .before .args in
     puts (a .store .now) (a .table .now) (a .request) (a .input .now) (a .buffer .now) (c .before .before .before .before .before .before .before .before .before .before .before .before .before .before .before .before .before .before .before .before .if1 .left)
-    (c .before .before .before .before .before .before .before .before .before .before .before .before .before .before .before .before .before .before .store-in .ensures) (c .before .before .before .before .before .before .before .before .before .before .before .before .before .before .before .before .sites-in .ensures) (c .before .before .before .before .before .before .before .before .before .before .before .before .before .before .serve1 .ensures) (sym (c .before .before .before .before .before .before .before .before .before .before .before .is-refused .ensures) ∙ c .before .before .before .before .before .before .before .before .before .before .if2 .left)
+    (c .before .before .before .before .before .before .before .before .before .before .before .before .before .before .before .before .before .before .store-in .ensures) (c .before .before .before .before .before .before .before .before .before .before .before .before .before .before .before .before .sites-in .ensures) (c .before .before .before .before .before .before .before .before .before .before .before .before .before .before .serve1 .ensures) (sym (c .before .before .before .before .before .before .before .before .before .before .before .is-kept .ensures) ∙ c .before .before .before .before .before .before .before .before .before .before .if2 .left)
     (λ i. c .before .before .before .before .before .before .before .before .before .before .before .before .before .before .before .before .before .before .before .before .before .before .before .slice-known2 .given i .fits) (c .before .before .before .before .before .before .put-sites .ensures) (c .before .before .put-store .ensures) (c .before .before .put-store .kept .0)
 
 pub call-spec : {M : Type 1} → statement M
@@ -70,7 +70,7 @@ call-spec =
     store-in-requires
     sites-in-requires
     serve1-requires
-    is-refused-requires
+    is-kept-requires
     same-length
     same-length-2
     same-length-3

@@ -1,22 +1,26 @@
--- `loads::loads` meets its contract. The invariant: each depot has its parts of the sites passed. Assumes nothing.
-use mathlib.Core.Path.{_≡_, ap, _∙_}
+-- `loads::loads` meets its contract. The invariant: each depot has its parts of the sites passed, added to what it had at first. Assumes nothing.
+use mathlib.Core.Path.{_≡_, refl}
 use Prim.Native.Nat.{_+_, _-_, _≤_, _<_, _^_}
 use native.Mathlib.Omega.{arith}
-use Rattle.sets.specs.Sum.{sum}
+use lib.Dec.{eqb}
+use lib.ListN.{getD}
+use Rattle.sets.proofs.Test.{when-≤}
+use Rattle.density.specs.Network.{noSite}
 use Rattle.tables.specs.Tables.{partOf}
+use Rattle.tables.proofs.Arrays.{added, added-two}
 use Rattle.tables.proofs.Totals.{Summed, summed-start, summed-pair, summed-last, part-≤}
 use borrow.Author.Needs.{needs}
 use Rattle.loads.proofs.loads.Statement.{statement}
 use Rattle.loads.proofs.loads.Tie as tie
 
 abbrev Inv-loop : tie.InvT-loop
-Inv-loop shares wholes list r₀ i₀ r i = (i ≤ list .count) × Summed (partOf list shares wholes) (2 ^ 42) r i
+Inv-loop shares wholes list r₀ i₀ r i = (i ≤ list .count) × Summed (λ k. getD r₀ k 0) (partOf list shares wholes) (2 ^ 42) r i
 
 abbrev μ-loop : tie.MeasureT-loop
 μ-loop shares wholes list r₀ i₀ r i = list .count - i
 
 loop-holds : tie.Need-loop-holds Inv-loop μ-loop
-loop-holds c = (search needs, rw (c .before .before .pre .0) (summed-start _ _))
+loop-holds c = (search needs, summed-start _ _ _ _ (search needs) (λ k l. refl))
 
 add-loop : tie.Need-add-loop Inv-loop μ-loop
 add-loop c = let s = c .before .before .before in omega (arith, s .pre .1 .sites)
@@ -74,7 +78,7 @@ add-pair-requires c κs =
     let d′ = s .pre .1 .depots (i + 1) l′ in
     let f = s .pre .1 .fit i l in
     let f′ = s .pre .1 .fit (i + 1) l′ in
-    ((h .wide, d .0, d .1, d′ .0, d′ .1), (f .0, f .1, f′ .0, f′ .1, λ k m. omega (arith, h .low k m, s .pre .1 .sites)))
+    ((h .wide, d .0, d .1, d′ .0, d′ .1), (f .0, f .1, f′ .0, f′ .1, λ k m. omega (arith, h .low k m, s .pre .0 k m, s .pre .1 .sites)))
 
 add-i : tie.Need-add-i Inv-loop μ-loop
 add-i c = let s = c .before .before .before .before .before .before .before .before .before .before .before .before .before in omega (arith, s .pre .1 .sites)
@@ -91,7 +95,7 @@ loop-again c =
     let l′ : i + 1 < s .args .t2 .count = c .before .before .before .before .before .before .before .before .before .loop-test .taken in
     let p = part-≤ (s .args .t2) (s .args .shares .now) (s .args .wholes .now) (s .pre .1) in
     let e = c .before .add-pair .ensures in
-    (search needs, summed-pair _ (2 ^ 42) _ _ i h (search needs) (e .2) (p i l (e .0)) (p (i + 1) l′ (e .1)))
+    (search needs, summed-pair _ _ (2 ^ 42) _ _ i h (search needs) (e .2) (p i l (e .0)) (p (i + 1) l′ (e .1)))
 
 mul-s-2 : tie.Need-mul-s-2 Inv-loop μ-loop
 mul-s-2 c = let s = c .before .before .before .before .before in omega (arith, s .pre .1 .sites)
@@ -99,41 +103,91 @@ mul-s-2 c = let s = c .before .before .before .before .before in omega (arith, s
 element-copy-out-s-2 : tie.Need-element-copy-out-s-2 Inv-loop μ-loop
 element-copy-out-s-2 c = let s = c .before .before .before .before .before in omega (arith, s .pre .1 .sites)
 
-slice-aggregate-add-site : tie.Need-slice-aggregate-add-site Inv-loop μ-loop
-slice-aggregate-add-site c = search needs
+cast-a : tie.Need-cast-a Inv-loop μ-loop
+cast-a c = search needs
 
-mul-add-site : tie.Need-mul-add-site Inv-loop μ-loop
-mul-add-site c = let s = c .before .before .before .before .before .before .before in omega (arith, s .pre .1 .sites, s .pre .1 .lengths .0)
+cast-b : tie.Need-cast-b Inv-loop μ-loop
+cast-b c = search needs
 
-shared-slice-read-add-site : tie.Need-shared-slice-read-add-site Inv-loop μ-loop
-shared-slice-read-add-site c = let s = c .before .before .before .before .before .before .before .before in omega (arith, s .pre .1 .sites, s .pre .1 .lengths .0)
+mul-x : tie.Need-mul-x Inv-loop μ-loop
+mul-x c = let s = c .before .before .before .before .before .before .before .before in omega (arith, s .pre .1 .sites, s .pre .1 .lengths .0)
 
-mul-add-site-2 : tie.Need-mul-add-site-2 Inv-loop μ-loop
-mul-add-site-2 c = let s = c .before .before .before .before .before .before .before .before in omega (arith, s .pre .1 .sites, s .pre .1 .lengths .1)
+shared-slice-read-x : tie.Need-shared-slice-read-x Inv-loop μ-loop
+shared-slice-read-x c = let s = c .before .before .before .before .before .before .before .before .before in omega (arith, s .pre .1 .sites, s .pre .1 .lengths .0)
 
-shared-slice-read-add-site-2 : tie.Need-shared-slice-read-add-site-2 Inv-loop μ-loop
-shared-slice-read-add-site-2 c = let s = c .before .before .before .before .before .before .before .before .before in omega (arith, s .pre .1 .sites, s .pre .1 .lengths .1)
+mul-y : tie.Need-mul-y Inv-loop μ-loop
+mul-y c = let s = c .before .before .before .before .before .before .before .before .before in omega (arith, s .pre .1 .sites, s .pre .1 .lengths .1)
 
-add-site-requires : tie.Need-add-site-requires Inv-loop μ-loop
-add-site-requires c κs =
-    let s = c .before .before .before .before .before .before .before .before .before in
-    let i = c .before .before .before .before .before .before .loop .i in
-    let h = c .before .before .before .before .before .before .loop .inv .1 in
-    let l : i < s .args .t2 .count = c .before .before .before .before .if1 .taken in
+shared-slice-read-y : tie.Need-shared-slice-read-y Inv-loop μ-loop
+shared-slice-read-y c = let s = c .before .before .before .before .before .before .before .before .before .before in omega (arith, s .pre .1 .sites, s .pre .1 .lengths .1)
+
+sub-y : tie.Need-sub-y Inv-loop μ-loop
+sub-y c = omega (arith, c .before .before .before .before .before .before .before .before .before .before .pre .1 .fit (c .before .before .before .before .before .before .before .loop .i) (c .before .before .before .before .before .if1 .taken) .0)
+
+mul-r : tie.Need-mul-r Inv-loop μ-loop
+mul-r c = omega (arith, c .before .before .before .before .before .before .before .before .before .before .pre .1 .depots (c .before .before .before .before .before .before .before .loop .i) (c .before .before .before .before .before .if1 .taken) .0)
+
+array-read-r : tie.Need-array-read-r Inv-loop μ-loop
+array-read-r c = omega (arith, c .before .before .before .before .before .before .before .before .before .before .pre .1 .depots (c .before .before .before .before .before .before .before .loop .i) (c .before .before .before .before .before .if1 .taken) .0)
+
+add-r : tie.Need-add-r Inv-loop μ-loop
+add-r c =
+    let s = c .before .before .before .before .before .before .before .before .before .before in
+    let i = c .before .before .before .before .before .before .before .loop .i in
+    let h = c .before .before .before .before .before .before .before .loop .inv .1 in
+    let l : i < s .args .t2 .count = c .before .before .before .before .before .if1 .taken in
+    let w : getD (s .args .t2 .sites) i noSite .litres < 2 ^ 32 = search needs in
     let d = s .pre .1 .depots i l in
     let f = s .pre .1 .fit i l in
-    (h .wide, d .0, d .1, f .0, f .1, λ k m. omega (arith, h .low k m, s .pre .1 .sites))
+    omega (arith, w, f .0, f .1, h .low _ (d .0), s .pre .0 _ (d .0), s .pre .1 .sites)
+
+mul-r-2 : tie.Need-mul-r-2 Inv-loop μ-loop
+mul-r-2 c = omega (arith, c .before .before .before .before .before .before .before .before .before .before .pre .1 .depots (c .before .before .before .before .before .before .before .loop .i) (c .before .before .before .before .before .if1 .taken) .0)
+
+array-write-r : tie.Need-array-write-r Inv-loop μ-loop
+array-write-r c = omega (arith, c .before .before .before .before .before .before .before .before .before .before .pre .1 .depots (c .before .before .before .before .before .before .before .loop .i) (c .before .before .before .before .before .if1 .taken) .0)
+
+mul-r-3 : tie.Need-mul-r-3 Inv-loop μ-loop
+mul-r-3 c = omega (arith, c .before .before .before .before .before .before .before .before .before .before .pre .1 .depots (c .before .before .before .before .before .before .before .loop .i) (c .before .before .before .before .before .if1 .taken) .1)
+
+array-read-r-2 : tie.Need-array-read-r-2 Inv-loop μ-loop
+array-read-r-2 c = omega (arith, c .before .before .before .before .before .before .before .before .before .before .pre .1 .depots (c .before .before .before .before .before .before .before .loop .i) (c .before .before .before .before .before .if1 .taken) .1)
+
+add-r-2 : tie.Need-add-r-2 Inv-loop μ-loop
+add-r-2 c =
+    let s = c .before .before .before .before .before .before .before .before .before .before in
+    let i = c .before .before .before .before .before .before .before .loop .i in
+    let h = c .before .before .before .before .before .before .before .loop .inv .1 in
+    let r = c .before .before .before .before .before .before .before .loop .r in
+    let t = getD (s .args .t2 .sites) i noSite in
+    let l : i < s .args .t2 .count = c .before .before .before .before .before .if1 .taken in
+    let w : getD (s .args .t2 .sites) i noSite .litres < 2 ^ 32 = search needs in
+    let d = s .pre .1 .depots i l in
+    let f = s .pre .1 .fit i l in
+    omega (arith, w, f .0, f .1, h .low _ (d .1), s .pre .0 _ (d .1), s .pre .1 .sites, added r (t .first) (getD (s .args .shares .now) i 0) (omega (arith, h .wide, d .0)) (t .second), when-≤ (eqb (t .first) (t .second)) (getD (s .args .shares .now) i 0))
+
+mul-r-4 : tie.Need-mul-r-4 Inv-loop μ-loop
+mul-r-4 c = omega (arith, c .before .before .before .before .before .before .before .before .before .before .pre .1 .depots (c .before .before .before .before .before .before .before .loop .i) (c .before .before .before .before .before .if1 .taken) .1)
+
+array-write-r-2 : tie.Need-array-write-r-2 Inv-loop μ-loop
+array-write-r-2 c = omega (arith, c .before .before .before .before .before .before .before .before .before .before .pre .1 .depots (c .before .before .before .before .before .before .before .loop .i) (c .before .before .before .before .before .if1 .taken) .1)
 
 returns : tie.Need-returns Inv-loop μ-loop
 returns c =
-    let s = c .before .before .before .before .before .before .before .before .before .before .before in
-    let e : c .before .before .before .before .before .before .before .before .loop .i + 1 ≡ s .args .t2 .count = omega (arith, c .before .before .before .before .before .before .if1 .taken, c .before .before .before .before .before .before .before .loop-test .left) in
-    λ k l. summed-last (partOf (s .args .t2) (s .args .shares .now) (s .args .wholes .now)) (2 ^ 42) _ (c .before .before .before .before .before .before .before .before .loop .i) _ (c .before .before .before .before .before .before .before .before .loop .inv .1) e k _ l (c .before .add-site .ensures k l)
+    let s = c .before .before .before .before .before .before .before .before .before .before in
+    let i = c .before .before .before .before .before .before .before .loop .i in
+    let h = c .before .before .before .before .before .before .before .loop .inv .1 in
+    let r = c .before .before .before .before .before .before .before .loop .r in
+    let t = getD (s .args .t2 .sites) i noSite in
+    let l : i < s .args .t2 .count = c .before .before .before .before .before .if1 .taken in
+    let d = s .pre .1 .depots i l in
+    let e : i + 1 ≡ s .args .t2 .count = omega (arith, l, c .before .before .before .before .before .before .loop-test .left) in
+    λ k m. summed-last _ (partOf (s .args .t2) (s .args .shares .now) (s .args .wholes .now)) (2 ^ 42) _ i _ h e k _ m (added-two r (t .first) (getD (s .args .shares .now) i 0) (t .second) (getD (s .args .wholes .now) i 0 - getD (s .args .shares .now) i 0) (omega (arith, h .wide, d .0)) (omega (arith, h .wide, d .1)) k)
 
 returns-2 : tie.Need-returns-2 Inv-loop μ-loop
 returns-2 c =
     let e : c .before .before .loop .i ≡ c .before .before .before .before .before .args .t2 .count = omega (arith, c .before .before .loop .inv .0, c .if1 .left) in
-    λ k l. c .before .before .loop .inv .1 .is k l ∙ ap (sum _) e
+    λ k l. rw e at (c .before .before .loop .inv .1 .is k l)
 
 pub loads-spec : {M : Type 1} → statement M
 loads-spec =
@@ -163,11 +217,22 @@ loads-spec =
     loop-again
     mul-s-2
     element-copy-out-s-2
-    slice-aggregate-add-site
-    mul-add-site
-    shared-slice-read-add-site
-    mul-add-site-2
-    shared-slice-read-add-site-2
-    add-site-requires
+    cast-a
+    cast-b
+    mul-x
+    shared-slice-read-x
+    mul-y
+    shared-slice-read-y
+    sub-y
+    mul-r
+    array-read-r
+    add-r
+    mul-r-2
+    array-write-r
+    mul-r-3
+    array-read-r-2
+    add-r-2
+    mul-r-4
+    array-write-r-2
     returns
     returns-2)

@@ -5,10 +5,10 @@ use Rattle.plan.proofs.print_groups.Statement.{statement}
 use Rattle.plan.proofs.print_groups.Tie as tie
 
 abbrev Inv-loop : tie.InvT-loop
-Inv-loop list plan litres sizes k₀ k = k ≤ plan .count
+Inv-loop x k₀ k = k ≤ x .plan .count
 
 abbrev μ-loop : tie.MeasureT-loop
-μ-loop list plan litres sizes k₀ k = plan .count - k
+μ-loop x k₀ k = x .plan .count - k
 
 loop-holds : tie.Need-loop-holds Inv-loop μ-loop
 loop-holds c = search needs

@@ -5,10 +5,10 @@ use Rattle.plan.proofs.print_sites.Statement.{statement}
 use Rattle.plan.proofs.print_sites.Tie as tie
 
 abbrev Inv-loop : tie.InvT-loop
-Inv-loop list plan places sizes i₀ i = i ≤ list .count
+Inv-loop x i₀ i = i ≤ x .list .count
 
 abbrev μ-loop : tie.MeasureT-loop
-μ-loop list plan places sizes i₀ i = list .count - i
+μ-loop x i₀ i = x .list .count - i
 
 loop-holds : tie.Need-loop-holds Inv-loop μ-loop
 loop-holds c = search needs

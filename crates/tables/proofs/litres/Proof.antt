@@ -3,19 +3,19 @@ use mathlib.Core.Path.{refl}
 use Prim.Native.Nat.{_-_, _≤_, _<_, _^_}
 use native.Mathlib.Omega.{arith}
 use native.Mathlib.Nat.{le-of-suc-le}
-use Rattle.tables.proofs.Totals.{Summed, summed-start, summed-one, carried, litres-end}
+use Rattle.tables.proofs.Totals.{Summed, summed-zero, summed-one, carried, litres-end}
 use borrow.Author.Needs.{needs}
 use Rattle.tables.proofs.litres.Statement.{statement}
 use Rattle.tables.proofs.litres.Tie as tie
 
 abbrev Inv-loop : tie.InvT-loop
-Inv-loop places list r₀ i₀ r i = (i ≤ list .count) × Summed (carried (list .sites) places) (2 ^ 32) r i
+Inv-loop places list r₀ i₀ r i = (i ≤ list .count) × Summed (λ _. 0) (carried (list .sites) places) (2 ^ 32) r i
 
 abbrev μ-loop : tie.MeasureT-loop
 μ-loop places list r₀ i₀ r i = list .count - i
 
 loop-holds : tie.Need-loop-holds Inv-loop μ-loop
-loop-holds c = (search needs, summed-start _ _)
+loop-holds c = (search needs, summed-zero _ _)
 
 mul-s : tie.Need-mul-s Inv-loop μ-loop
 mul-s c = omega (arith, c .before .before .before .pre .sites .0)
@@ -85,7 +85,7 @@ loop-again c =
     let p = c .before .before .before .before .before .before .before .before .before .before .pre .low (c .before .before .before .before .before .before .before .before .loop .i) (c .before .before .before .before .before .before .before .loop-test .taken) in
     let k : c .later .result < 64 = omega (arith, c .later .ensures, p .0, p .1) in (
       search needs,
-      summed-one (carried (c .before .before .before .before .before .before .before .before .before .before .args .t1 .sites) (c .before .before .before .before .before .before .before .before .before .before .args .places .now)) (2 ^ 32) _ _ (c .before .before .before .before .before .before .before .before .loop .i) (c .later .result) (c .before .before .before .before .before .litres-of .result) (c .before .before .before .before .before .before .before .before .loop .inv .1) k
+      summed-one _ (carried (c .before .before .before .before .before .before .before .before .before .before .args .t1 .sites) (c .before .before .before .before .before .before .before .before .before .before .args .places .now)) (2 ^ 32) _ _ (c .before .before .before .before .before .before .before .before .loop .i) (c .later .result) (c .before .before .before .before .before .litres-of .result) (c .before .before .before .before .before .before .before .before .loop .inv .1) k
           (le-of-suc-le (c .before .before .before .before .before .litres-of .ensures .1)) refl (λ k. rw (c .later .ensures, c .before .before .before .before .before .litres-of .ensures .0)),
     )
 

@@ -1,7 +1,8 @@
 -- `verify::plan_row` meets its contract. Assumes nothing.
 use mathlib.Core.Path.{_≡_, refl, sym, _∙_}
+use Prim.Native.Nat.{ℕ}
 use native.Mathlib.Omega.{arith}
-use lib.ListN.{length}
+use lib.ListN.{length, getD-replicate}
 use borrow.Author.Needs.{needs}
 use Rattle.tables.specs.Tables.{net, groupsIn}
 use Rattle.tables.proofs.Verdicts.{form-refused, row-15, row-16, plan-passes, small, kept-parts, kept-levels}
@@ -42,7 +43,7 @@ loads-requires c κs =
     let s = c .before .before .before .before .before .before .before .before .before .before .before .before in
     let k = c .before .before .before .before .before .before .before .before .try-form .ensures .passed (c .before .before .before .before .before .enum-told .given .1) in
     let many : length (s .args .plan .shares) ≡ 512 = search needs in
-    (refl, kept-parts k (s .args .plan .shares) (refl, many))
+    (λ d l. omega (arith, getD-replicate {A = ℕ} 64 d 0 0 l), kept-parts k (s .args .plan .shares) (refl, many))
 
 slice-aggregate-loads-uneven : tie.Need-slice-aggregate-loads-uneven
 slice-aggregate-loads-uneven c = search needs

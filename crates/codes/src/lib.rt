@@ -1,0 +1,110 @@
+// A desk call's answer as the numbers that a C function gives back.
+use edition1::Request1;
+use signed::length;
+use signed::refused;
+use store::Answer;
+ghost use mathlib.Core.Path.{_≡_};
+ghost use mathlib.Core.List.{[]};
+ghost use Prim.Native.Nat.{ℕ, _<_, _^_};
+ghost use Rattle.store.specs.Calls.{told, wrote};
+ghost use Rattle.edition1.specs.Edition1.{callOf1};
+ghost use Rattle.codes.specs.Codes.{rowCode, lengthCode, outcomeOf, Figures};
+
+// A desk's answer as numbers: its code, two figures and a difference.
+pub struct Coded {
+    pub code: i64,
+    pub first: u64,
+    pub second: u64,
+    pub difference: i64,
+}
+
+// A row's number with a minus sign; row 0 is -256.
+fn row(n: u8) -> i64
+    ensures { λ r. ⌜ r ≡ rowCode n ⌝ }
+{
+    if n == 0 {
+        return -256;
+    }
+    refused(n)
+}
+
+// An answer as a code and figures; figures that it does not have stay as they were.
+pub fn outcome(a: Answer, first: u64, second: u64, difference: i64) -> Coded
+    ensures { λ r. ⌜ r ≡ outcomeOf (told a) first second difference ⌝ }
+{
+    match a {
+        Answer::Refused(n) => {
+            let code = row(n);
+            Coded {
+                code,
+                first,
+                second,
+                difference,
+            }
+        }
+        Answer::Done => Coded {
+            code: 0,
+            first,
+            second,
+            difference,
+        },
+        Answer::Share(s, w) => Coded {
+            code: 0,
+            first: s,
+            second: w,
+            difference,
+        },
+        Answer::Depot(w, q) => Coded {
+            code: 0,
+            first: w,
+            second: q,
+            difference,
+        },
+        Answer::Difference(d, q) => Coded {
+            code: 0,
+            first,
+            second: q,
+            difference: d,
+        },
+        Answer::Length(_) => Coded {
+            code: 0,
+            first,
+            second,
+            difference,
+        },
+    }
+}
+
+// The length written, or the row.
+pub fn written(a: Answer) -> i64
+    requires { ⌜ ((n : ℕ) → told a ≡ wrote n → n < 2 ^ 63) ⌝ }
+    ensures { λ r. ⌜ r ≡ lengthCode (told a) ⌝ }
+{
+    match a {
+        Answer::Refused(n) => row(n),
+        Answer::Done => 0,
+        Answer::Share(_, _) => 0,
+        Answer::Depot(_, _) => 0,
+        Answer::Difference(_, _) => 0,
+        Answer::Length(n) => length(n),
+    }
+}
+
+// A question for two figures: 0 and they are written, or the row.
+pub fn figures(
+    store: &mut [u8],
+    table: &mut [u8],
+    request: Request1,
+    first: &mut u64,
+    second: &mut u64,
+) -> i64
+    ensures { λ r. ⌜ Figures (now (store .entry)) (now (table .entry)) (callOf1 request [] []) r (now (store .exit)) (now (table .exit)) (now (first .entry)) (now (second .entry)) (now (first .exit)) (now (second .exit)) ⌝ }
+{
+    let a = lent::ask(store, table, request);
+    let x = *first;
+    let y = *second;
+    let o = outcome(a, x, y, 0);
+    *first = o.first;
+    *second = o.second;
+    o.code
+}

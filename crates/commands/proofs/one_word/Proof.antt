@@ -1,0 +1,76 @@
+-- `commands::one_word` meets its contract: the names before are none, and this one is the name.
+-- Assumes nothing.
+use borrow.Author.Needs.{needs}
+use Rattle.script.proofs.Words.{same-yes, same-no}
+use Rattle.commands.specs.Commands.{oneWord}
+use Rattle.commands.proofs.one_word.Statement.{statement}
+use Rattle.commands.proofs.one_word.Tie as tie
+
+slice-aggregate-same : tie.Need-slice-aggregate-same
+slice-aggregate-same c = search needs
+
+same-requires : tie.Need-same-requires
+same-requires c κs = search needs
+
+table-requires : tie.Need-table-requires
+table-requires c κs = search needs
+
+returns : tie.Need-returns
+unfolding oneWord
+returns c =
+    simp (same-yes (c .before .before .same .ensures) (c .before .if1 .taken)) (c .table .ensures)
+
+slice-aggregate-same-2 : tie.Need-slice-aggregate-same-2
+slice-aggregate-same-2 c = search needs
+
+same-requires-2 : tie.Need-same-requires-2
+same-requires-2 c κs = search needs
+
+given-requires : tie.Need-given-requires
+given-requires c κs = search needs
+
+returns-2 : tie.Need-returns-2
+unfolding oneWord
+returns-2 c =
+    simp (same-no (c .before .before .before .before .before .same .ensures) (c .before .before .before .before .if1 .left), same-yes (c .before .before .same2 .ensures) (c .before .if2 .taken)) (c .given .ensures)
+
+slice-aggregate-same-3 : tie.Need-slice-aggregate-same-3
+slice-aggregate-same-3 c = search needs
+
+same-requires-3 : tie.Need-same-requires-3
+same-requires-3 c κs = search needs
+
+given-requires-2 : tie.Need-given-requires-2
+given-requires-2 c κs = search needs
+
+returns-3 : tie.Need-returns-3
+unfolding oneWord
+returns-3 c =
+    simp (same-no (c .before .before .before .before .before .before .before .before .same .ensures) (c .before .before .before .before .before .before .before .if1 .left), same-no (c .before .before .before .before .before .same2 .ensures) (c .before .before .before .before .if2 .left), same-yes (c .before .before .same3 .ensures) (c .before .if3 .taken)) (c .given2 .ensures)
+
+question-requires : tie.Need-question-requires
+question-requires c κs = search needs
+
+returns-4 : tie.Need-returns-4
+unfolding oneWord
+returns-4 c =
+    simp (same-no (c .before .before .before .before .before .before .before .before .same .ensures) (c .before .before .before .before .before .before .before .if1 .left), same-no (c .before .before .before .before .before .same2 .ensures) (c .before .before .before .before .if2 .left), same-no (c .before .before .same3 .ensures) (c .before .if3 .left)) (c .question .ensures)
+
+pub one-word-spec : {M : Type 1} → statement M
+one-word-spec =
+    tie.close
+    (tie.spec
+    slice-aggregate-same
+    same-requires
+    table-requires
+    returns
+    slice-aggregate-same-2
+    same-requires-2
+    given-requires
+    returns-2
+    slice-aggregate-same-3
+    same-requires-3
+    given-requires-2
+    returns-3
+    question-requires
+    returns-4)

@@ -1,0 +1,104 @@
+-- The commands of a script's lines.
+use Prim.Native.Nat.{ℕ}
+use mathlib.Core.Bool.{Bool, false, cond}
+use mathlib.Core.List.{List, [], _∷_}
+use lib.Dec.{eqb}
+use Rattle.script.specs.Hex.{isBytes}
+use Rattle.script.specs.Decimal.{numberOf}
+use Rattle.script.specs.Words.{wordsOf}
+use Rattle.script.specs.Ascii.{is}
+use Rattle.script.specs.declared.Number.{Number}
+use Rattle.script.specs.declared.Number.the-variants as number
+use Rattle.edition1.specs.declared.Request1.the-variants as request
+use Rattle.commands.specs.declared.Command.{Command}
+use Rattle.commands.specs.declared.Command.the-variants.{Blank, Bad, Table, Call, Written, Check, Make}
+
+-- the command where the word stands for bytes
+abbrev pub ofBytes : List ℕ → Command → Command
+ofBytes word c = cond (isBytes word) c Bad
+
+-- the command of a number
+abbrev pub ofNumber : Number → (ℕ → Command) → Command
+ofNumber (number.Value n) f = f n
+ofNumber number.Bad f = Bad
+
+-- a site is at most 2^64 - 1, a depot at most 255, litres are at most 65,535
+abbrev pub ofSite : List ℕ → (ℕ → Command) → Command
+ofSite word f = ofNumber (numberOf 18446744073709551615 word) f
+
+abbrev pub ofDepot : List ℕ → (ℕ → Command) → Command
+ofDepot word f = ofNumber (numberOf 255 word) f
+
+abbrev pub ofLitres : List ℕ → (ℕ → Command) → Command
+ofLitres word f = ofNumber (numberOf 65535 word) f
+
+-- a table has at most 600 places, a buffer at most 8,192 bytes
+abbrev pub ofPlaces : List ℕ → (ℕ → Command) → Command
+ofPlaces word f = ofNumber (numberOf 600 word) f
+
+abbrev pub ofSize : List ℕ → (ℕ → Command) → Command
+ofSize word f = ofNumber (numberOf 8192 word) f
+
+-- a question and one word behind it
+unfoldable pub question : List ℕ → List ℕ → Command
+question name a =
+    -- share SITE
+    cond (is name "share") (ofSite a (λ i. Call (request.Share i)))
+    -- depot D
+    (cond (is name "depot") (ofDepot a (λ d. Call (request.Depot d)))
+    -- written LEN
+    (cond (is name "written") (ofSize a (λ n. Written n))
+    Bad))
+
+-- a name and one word behind it
+unfoldable pub oneWord : List ℕ → List ℕ → Command
+oneWord name a =
+    -- table N
+    cond (is name "table") (ofPlaces a (λ n. Table n))
+    -- load LIST
+    (cond (is name "load") (ofBytes a (Call request.Load))
+    -- propose PLAN
+    (cond (is name "propose") (ofBytes a (Call request.Propose))
+    (question name a)))
+
+-- a name and two words behind it
+unfoldable pub twoWords : List ℕ → List ℕ → List ℕ → Command
+twoWords name a b =
+    -- change SITE LITRES
+    cond (is name "change") (ofSite a (λ i. ofLitres b (λ w. Call (request.Change i w))))
+    -- difference A B
+    (cond (is name "difference") (ofDepot a (λ d. ofDepot b (λ e. Call (request.Difference d e))))
+    -- check LIST PLAN
+    (cond (is name "check") (ofBytes a (ofBytes b Check))
+    -- make LIST LEN
+    (cond (is name "make") (ofBytes a (ofSize b (λ n. Make n)))
+    Bad)))
+
+-- a name and three words behind it
+unfoldable pub threeWords : List ℕ → List ℕ → List ℕ → List ℕ → Command
+threeWords name a b c =
+    -- add FIRST SECOND LITRES
+    cond (is name "add") (ofDepot a (λ f. ofDepot b (λ s. ofLitres c (λ w. Call (request.Add f s w)))))
+    Bad
+
+-- a word too many or too few is bad
+abbrev pub callOf : List ℕ → List (List ℕ) → Command
+callOf name [] = Bad
+callOf name (a ∷ []) = oneWord name a
+callOf name (a ∷ b ∷ []) = twoWords name a b
+callOf name (a ∷ b ∷ c ∷ []) = threeWords name a b c
+callOf name (a ∷ b ∷ c ∷ d ∷ more) = Bad
+
+-- does the word begin with `#` (byte 35)?
+abbrev pub isComment : List ℕ → Bool
+isComment [] = false
+isComment (b ∷ word) = eqb b 35
+
+-- a line without words, and one whose first word begins with `#`, is blank
+abbrev pub ofWords : List (List ℕ) → Command
+ofWords [] = Blank
+ofWords (name ∷ words) = cond (isComment name) Blank (callOf name words)
+
+-- the command of a line
+abbrev pub commandOf : List ℕ → Command
+commandOf line = ofWords (wordsOf line)

@@ -1,0 +1,249 @@
+// A line of a script turned into a command. The top of crates/console/src/main.rt says what the lines mean.
+use edition1::Request1;
+use script::Number;
+ghost use mathlib.Core.Path.{_≡_};
+ghost use mathlib.Core.List.{_∷_};
+ghost use Rattle.script.specs.Words.{wordsOf};
+ghost use Rattle.commands.specs.Commands.{ofBytes, ofSite, ofDepot, ofLitres, ofPlaces, ofSize, question, oneWord, twoWords, threeWords, callOf, commandOf};
+ghost use Rattle.commands.specs.declared.Command.the-variants.{Table, Call, Written, Check, Make};
+ghost use Rattle.edition1.specs.declared.Request1.the-variants.{Share, Depot, Change, Difference, Add};
+
+// What a line asks for. A `Call` is a call of the desk; `written`, which takes a buffer, has a variant of its own. Bytes are not held: they are words of the line.
+pub enum Command {
+    Blank,
+    Bad,
+    Table(usize),
+    Call(Request1),
+    Written(usize),
+    Check,
+    Make(usize),
+}
+
+// The most places of a table.
+const PLACES: u64 = 600;
+
+// The most bytes of a buffer.
+const SIZE: u64 = 8192;
+
+// The largest numbers of a site, of a depot and of litres.
+const SITE: u64 = u64::MAX;
+
+const DEPOT: u64 = 255;
+
+const LITRES: u64 = 65535;
+
+// table N
+fn table(text: &[u8]) -> Command
+    ensures { λ r. ⌜ r ≡ ofPlaces (now (text .entry)) (λ n. Table n) ⌝ }
+{
+    match script::decimal(text, PLACES) {
+        Number::Value(n) => Command::Table(n as usize),
+        Number::Bad => Command::Bad,
+    }
+}
+
+// The command, where the word stands for bytes.
+fn given(text: &[u8], command: Command) -> Command
+    ensures { λ r. ⌜ r ≡ ofBytes (now (text .entry)) command ⌝ }
+{
+    if script::is_bytes(text) {
+        command
+    } else {
+        Command::Bad
+    }
+}
+
+// share SITE
+fn share(text: &[u8]) -> Command
+    ensures { λ r. ⌜ r ≡ ofSite (now (text .entry)) (λ i. Call (Share i)) ⌝ }
+{
+    match script::decimal(text, SITE) {
+        Number::Value(i) => Command::Call(Request1::Share(i as usize)),
+        Number::Bad => Command::Bad,
+    }
+}
+
+// depot D
+fn depot(text: &[u8]) -> Command
+    ensures { λ r. ⌜ r ≡ ofDepot (now (text .entry)) (λ d. Call (Depot d)) ⌝ }
+{
+    match script::decimal(text, DEPOT) {
+        Number::Value(d) => Command::Call(Request1::Depot(d as u8)),
+        Number::Bad => Command::Bad,
+    }
+}
+
+// written LEN
+fn written(text: &[u8]) -> Command
+    ensures { λ r. ⌜ r ≡ ofSize (now (text .entry)) (λ n. Written n) ⌝ }
+{
+    match script::decimal(text, SIZE) {
+        Number::Value(n) => Command::Written(n as usize),
+        Number::Bad => Command::Bad,
+    }
+}
+
+// The question of a name with one word behind it.
+fn question(name: &[u8], word: &[u8]) -> Command
+    ensures { λ r. ⌜ r ≡ question (now (name .entry)) (now (word .entry)) ⌝ }
+{
+    if check::same(name, b"share") {
+        return share(word);
+    }
+    if check::same(name, b"depot") {
+        return depot(word);
+    }
+    if check::same(name, b"written") {
+        return written(word);
+    }
+    Command::Bad
+}
+
+// The call of a name with one word behind it.
+fn one_word(name: &[u8], word: &[u8]) -> Command
+    ensures { λ r. ⌜ r ≡ oneWord (now (name .entry)) (now (word .entry)) ⌝ }
+{
+    if check::same(name, b"table") {
+        return table(word);
+    }
+    if check::same(name, b"load") {
+        return given(word, Command::Call(Request1::Load));
+    }
+    if check::same(name, b"propose") {
+        return given(word, Command::Call(Request1::Propose));
+    }
+    question(name, word)
+}
+
+// change SITE LITRES
+fn change(site: &[u8], litres: &[u8]) -> Command
+    ensures { λ r. ⌜ r ≡ ofSite (now (site .entry)) (λ i. ofLitres (now (litres .entry)) (λ w. Call (Change i w))) ⌝ }
+{
+    let Number::Value(i) = script::decimal(site, SITE) else {
+        return Command::Bad;
+    };
+    let Number::Value(w) = script::decimal(litres, LITRES) else {
+        return Command::Bad;
+    };
+    Command::Call(Request1::Change(i as usize, w as u16))
+}
+
+// difference A B
+fn difference(a: &[u8], b: &[u8]) -> Command
+    ensures { λ r. ⌜ r ≡ ofDepot (now (a .entry)) (λ d. ofDepot (now (b .entry)) (λ e. Call (Difference d e))) ⌝ }
+{
+    let Number::Value(d) = script::decimal(a, DEPOT) else {
+        return Command::Bad;
+    };
+    let Number::Value(e) = script::decimal(b, DEPOT) else {
+        return Command::Bad;
+    };
+    Command::Call(Request1::Difference(d as u8, e as u8))
+}
+
+// make LIST LEN, where LIST stands for bytes
+fn make(len: &[u8]) -> Command
+    ensures { λ r. ⌜ r ≡ ofSize (now (len .entry)) (λ n. Make n) ⌝ }
+{
+    match script::decimal(len, SIZE) {
+        Number::Value(n) => Command::Make(n as usize),
+        Number::Bad => Command::Bad,
+    }
+}
+
+// The call of a name with two words behind it.
+fn two_words(name: &[u8], a: &[u8], b: &[u8]) -> Command
+    ensures { λ r. ⌜ r ≡ twoWords (now (name .entry)) (now (a .entry)) (now (b .entry)) ⌝ }
+{
+    if check::same(name, b"change") {
+        return change(a, b);
+    }
+    if check::same(name, b"difference") {
+        return difference(a, b);
+    }
+    if check::same(name, b"check") {
+        return given(a, given(b, Command::Check));
+    }
+    if check::same(name, b"make") {
+        return given(a, make(b));
+    }
+    Command::Bad
+}
+
+// add FIRST SECOND LITRES
+fn add(first: &[u8], second: &[u8], litres: &[u8]) -> Command
+    ensures { λ r. ⌜ r ≡ ofDepot (now (first .entry)) (λ f. ofDepot (now (second .entry)) (λ s. ofLitres (now (litres .entry)) (λ w. Call (Add f s w)))) ⌝ }
+{
+    let Number::Value(f) = script::decimal(first, DEPOT) else {
+        return Command::Bad;
+    };
+    let Number::Value(s) = script::decimal(second, DEPOT) else {
+        return Command::Bad;
+    };
+    let Number::Value(w) = script::decimal(litres, LITRES) else {
+        return Command::Bad;
+    };
+    Command::Call(Request1::Add(f as u8, s as u8, w as u16))
+}
+
+// The call of a name with three words behind it.
+fn three_words(name: &[u8], a: &[u8], b: &[u8], c: &[u8]) -> Command
+    ensures { λ r. ⌜ r ≡ threeWords (now (name .entry)) (now (a .entry)) (now (b .entry)) (now (c .entry)) ⌝ }
+{
+    if check::same(name, b"add") {
+        return add(a, b, c);
+    }
+    Command::Bad
+}
+
+// The call of a name, two words, and the words of what stands behind them.
+fn third(name: &[u8], a: &[u8], b: &[u8], text: &[u8]) -> Command
+    ensures { λ r. ⌜ r ≡ callOf (now (name .entry)) (now (a .entry) ∷ now (b .entry) ∷ wordsOf (now (text .entry))) ⌝ }
+{
+    let c = script::word(text);
+    if c.len() == 0 {
+        return two_words(name, a, b);
+    }
+    let others = script::rest(text);
+    let d = script::word(others);
+    if d.len() == 0 {
+        return three_words(name, a, b, c);
+    }
+    Command::Bad
+}
+
+// The call of a name, one word, and the words of what stands behind it.
+fn second(name: &[u8], a: &[u8], text: &[u8]) -> Command
+    ensures { λ r. ⌜ r ≡ callOf (now (name .entry)) (now (a .entry) ∷ wordsOf (now (text .entry))) ⌝ }
+{
+    let b = script::word(text);
+    if b.len() == 0 {
+        return one_word(name, a);
+    }
+    third(name, a, b, script::rest(text))
+}
+
+// The call of a name and the words of what stands behind it.
+fn first(name: &[u8], text: &[u8]) -> Command
+    ensures { λ r. ⌜ r ≡ callOf (now (name .entry)) (wordsOf (now (text .entry))) ⌝ }
+{
+    let a = script::word(text);
+    if a.len() == 0 {
+        return Command::Bad;
+    }
+    second(name, a, script::rest(text))
+}
+
+// The command of a line.
+pub fn parse(line: &[u8]) -> Command
+    ensures { λ r. ⌜ r ≡ commandOf (now (line .entry)) ⌝ }
+{
+    let name = script::word(line);
+    if name.len() == 0 {
+        return Command::Blank;
+    }
+    if name[0] == b'#' {
+        return Command::Blank;
+    }
+    first(name, script::rest(line))
+}

@@ -1,0 +1,61 @@
+-- `console::run_apart` is safe and ends: a buffer is within its bound.
+-- Assumes nothing.
+use denote.Ref.{now}
+use Rattle.commands.proofs.Reading.{make-within}
+use borrow.Author.Needs.{needs}
+use Rattle.console.proofs.run_apart.Statement.{statement}
+use Rattle.console.proofs.run_apart.Tie as tie
+
+enum-told : tie.Need-enum-told
+enum-told c = search needs
+
+bad-requires : tie.Need-bad-requires
+bad-requires c κs = search needs
+
+enum-told-2 : tie.Need-enum-told-2
+enum-told-2 c = search needs
+
+rest-requires : tie.Need-rest-requires
+rest-requires c κs = search needs
+
+run-check-requires : tie.Need-run-check-requires
+run-check-requires c κs = search needs
+
+enum-known-command : tie.Need-enum-known-command
+enum-known-command c = search needs
+
+rest-requires-2 : tie.Need-rest-requires-2
+rest-requires-2 c κs = search needs
+
+run-make-requires : tie.Need-run-make-requires
+run-make-requires c κs =
+    make-within (now (c .before .before .before .before .before .args .line)) (c .before .before .before .before .before .pre) (c .before .before .command .given .0 .0) (c .before .before .command .given .1)
+
+returns : tie.Need-returns
+returns c = search needs
+
+returns-2 : tie.Need-returns-2
+returns-2 c = search needs
+
+returns-3 : tie.Need-returns-3
+returns-3 c = search needs
+
+returns-4 : tie.Need-returns-4
+returns-4 c = search needs
+
+pub run-apart-spec : {M : Type 1} → statement M
+run-apart-spec =
+    tie.close
+    (tie.spec
+    enum-told
+    bad-requires
+    enum-told-2
+    rest-requires
+    run-check-requires
+    enum-known-command
+    rest-requires-2
+    run-make-requires
+    returns
+    returns-2
+    returns-3
+    returns-4)

@@ -1,0 +1,70 @@
+-- `console::run_line` is safe and ends: the numbers of a command are within their bounds.
+-- Assumes nothing.
+use denote.Ref.{now}
+use Rattle.commands.proofs.Reading.{table-within, written-within}
+use borrow.Author.Needs.{needs}
+use Rattle.console.proofs.run_line.Statement.{statement}
+use Rattle.console.proofs.run_line.Tie as tie
+
+parse-requires : tie.Need-parse-requires
+parse-requires c κs = search needs
+
+enum-known-command : tie.Need-enum-known-command
+enum-known-command c = search needs
+
+run-table-requires : tie.Need-run-table-requires
+run-table-requires c κs =
+    table-within (now (c .before .before .before .before .before .args .line)) (c .before .before .before .parse .ensures) (c .before .command .given .0 .0) (c .before .command .given .1)
+
+enum-known-command-2 : tie.Need-enum-known-command-2
+enum-known-command-2 c = search needs
+
+rest-requires : tie.Need-rest-requires
+rest-requires c κs = search needs
+
+run-call-requires : tie.Need-run-call-requires
+run-call-requires c κs = search needs
+
+enum-known-command-3 : tie.Need-enum-known-command-3
+enum-known-command-3 c = search needs
+
+rest-requires-2 : tie.Need-rest-requires-2
+rest-requires-2 c κs = search needs
+
+run-call-requires-2 : tie.Need-run-call-requires-2
+run-call-requires-2 c κs =
+    written-within (now (c .before .before .before .before .before .before .args .line)) (c .before .before .before .before .parse .ensures) (c .before .before .command3 .given .0 .0) (c .before .before .command3 .given .1)
+
+run-apart-requires : tie.Need-run-apart-requires
+run-apart-requires c κs = search needs
+
+returns : tie.Need-returns
+returns c = search needs
+
+returns-2 : tie.Need-returns-2
+returns-2 c = search needs
+
+returns-3 : tie.Need-returns-3
+returns-3 c = search needs
+
+returns-4 : tie.Need-returns-4
+returns-4 c = search needs
+
+pub run-line-spec : {M : Type 1} → statement M
+run-line-spec =
+    tie.close
+    (tie.spec
+    parse-requires
+    enum-known-command
+    run-table-requires
+    enum-known-command-2
+    rest-requires
+    run-call-requires
+    enum-known-command-3
+    rest-requires-2
+    run-call-requires-2
+    run-apart-requires
+    returns
+    returns-2
+    returns-3
+    returns-4)

@@ -1,0 +1,3 @@
+pub mod Contracts
+pub mod Rows1
+pub mod Tables1

@@ -1,0 +1,26 @@
+-- The figures of a list: the plan made for it, and the tables of its groups.
+use mathlib.Core.Path.{_≡_}
+use mathlib.Core.List.{List}
+use Prim.Native.Nat.{ℕ}
+use lib.ListN.{length}
+use Rattle.density.specs.Plan.{groupLitres}
+use Rattle.records.specs.declared.ListRead.{ListRead}
+use Rattle.records.specs.Format.{edition1, readList}
+use Rattle.records.specs.Answer.{listRead}
+use Rattle.tables.specs.Tables.{net, groupsIn, Holds, Ready, Tables}
+use Rattle.maker.specs.Planned.{Planned}
+use Rattle.figures.specs.declared.Figures.{Figures}
+use Rattle.figures.specs.declared.Found.{Found}
+
+-- the plan is the one made for the list, and the tables hold the place of each depot, and "q that group's size" and "W the litres of all sites it carries" of each group
+pub record Computed (x : Figures) : Type 0 where
+  pub planned : Planned (x .list) (x .plan)
+  pub ready : Ready (x .list) (x .plan)
+  pub tables : Tables (x .list) (x .plan) (x .places) (x .sizes)
+  pub length-litres : length (x .litres) ≡ 64
+  pub litres : Holds (x .litres) (groupLitres (net (x .list)) (groupsIn (x .list) (x .plan))) (x .plan .count)
+
+-- what the bytes of a list give: the answer and the list are those of rows 1 to 6, and the figures are the list's
+pub record Of (bytes : List ℕ) (r : Found) : Type 0 where
+  pub read : _≡_ {A = ListRead} (record { answer = r .answer; list = r .figures .list }) (listRead (readList edition1 512 bytes))
+  pub computed : Computed (r .figures)

@@ -1,0 +1,3 @@
+pub mod ServeRules
+pub mod ServeCalls
+pub mod ServeQuestions
