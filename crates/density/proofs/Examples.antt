@@ -82,7 +82,7 @@ starred-known k l =
 pub nine-grouped : Grouped nineSites
 nine-grouped = grouped→ 6 (lit≤ tt) nineSites computed-nine
 
-hasRow→ : (o : Option ℕ) (n : ℕ) → T (hasRow o n) → o ≡ some n
+pub hasRow→ : (o : Option ℕ) (n : ℕ) → T (hasRow o n) → o ≡ some n
 unfolding hasRow
 hasRow→ none n t = absurd t
 hasRow→ (some m) n t = cc (eqb→eq m n t)

@@ -1,8 +1,8 @@
--- The starred lists as bytes: Check passes each list's plan. Assumes nothing.
+-- The starred lists as bytes: Check passes each list's plan; the examples of rows 1 to 16 as bytes: Check gives the row. Assumes nothing.
 use mathlib.Core.Path.{_≡_, refl}
 use mathlib.Core.List.{List, [], _∷_, flatMap}
-use mathlib.Core.Option.{none}
-use Prim.Native.Nat.{ℕ, _<_}
+use mathlib.Core.Option.{none, some}
+use Prim.Native.Nat.{ℕ, _+_, _<_}
 use lib.Dec.{T}
 use lib.ListN.{length, getD}
 use Rattle.sets.specs.Sum.{sum, all, any}
@@ -12,13 +12,14 @@ use Rattle.density.specs.Network.{network, size}
 use Rattle.density.specs.Plan.{union, place, carrier, groupSize, groupLitres, whole, firstShare, secondShare, shareOf, target}
 use Rattle.density.specs.Rows.{firstRow, groupsMeet, groupsUnlisted, shareBroken, sharesBroken, scaledLoad, loadsUneven, groupsRise, planRows}
 use Rattle.density.specs.Examples.{Example, noSites, starred}
-use Rattle.density.proofs.Cases.{isNone}
-use Rattle.density.proofs.Examples.{isNone→}
+use Rattle.density.proofs.Cases.{isNone, hasRow}
+use Rattle.density.proofs.Examples.{isNone→, hasRow→}
 use Rattle.records.specs.Bytes.{le, value}
 use Rattle.records.specs.Record.{records}
 use Rattle.records.specs.Format.{edition1, readList, readPlan}
 use Rattle.records.specs.Write.{listBytes, planBytes}
 use Rattle.judge.specs.Check.{checkRow}
+use Rattle.judge.specs.Refusals.{pair, refusals}
 
 -- an example's list and plan as bytes
 abbrev pub listOf : Example → List ℕ
@@ -55,3 +56,12 @@ T-passes = refl
 pub T-is : (listOf (getD starred 1 noSites) ≡ listT) × (planOf (getD starred 1 noSites) ≡ planT)
 unfolding starred listBytes planBytes flatMap le
 T-is = (refl, refl)
+
+-- the examples of rows 1 to 16: each gets its row
+computed-rows : T (all (λ k. hasRow (checkRow edition1 (getD refusals k (pair [] []) .list) (getD refusals k (pair [] []) .plan)) (k + 1)) (length refusals))
+unfolding hasRow refusals checkRow readList readPlan value records sum all any has weigh size network firstRow planRows groupsMeet groupsUnlisted sharesBroken shareBroken loadsUneven scaledLoad shareOf target groupsRise place union carrier groupSize groupLitres whole firstShare secondShare
+computed-rows = tt
+
+pub rows-refused : (k : ℕ) → k < length refusals → checkRow edition1 (getD refusals k (pair [] []) .list) (getD refusals k (pair [] []) .plan) ≡ some (k + 1)
+rows-refused k l =
+    hasRow→ _ _ (all-at (λ k. hasRow (checkRow edition1 (getD refusals k (pair [] []) .list) (getD refusals k (pair [] []) .plan)) (k + 1)) (length refusals) computed-rows k l)

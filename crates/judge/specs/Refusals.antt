@@ -1,0 +1,68 @@
+-- Document 01, "When the gate stays shut": the examples of rows 1 to 16, as bytes.
+use mathlib.Core.List.{List, [], _∷_}
+use Prim.Native.Nat.{ℕ}
+
+-- a list and a plan
+pub record Pair : Type 0 where
+  pub list : List ℕ
+  pub plan : List ℕ
+
+abbrev pub pair : List ℕ → List ℕ → Pair
+pair list plan = record { list = list; plan = plan }
+
+-- "4C 53, site count (2)"; "53 54, first depot (1), second depot (1), litres (2)"
+abbrev pub head : ℕ → List ℕ → List ℕ
+head n rest = 0x4C ∷ 0x53 ∷ n ∷ 0x00 ∷ rest
+
+abbrev pub site : ℕ → ℕ → ℕ → List ℕ → List ℕ
+site f s w rest = 0x53 ∷ 0x54 ∷ f ∷ s ∷ w ∷ 0x00 ∷ rest
+
+-- "50 4C, group count (1), site count (2)"; "47 52 and a set (8)"; "53 48 and s (4)"
+abbrev pub plan : ℕ → ℕ → List ℕ → List ℕ
+plan groups sites rest = 0x50 ∷ 0x4C ∷ groups ∷ sites ∷ 0x00 ∷ rest
+
+abbrev pub group : ℕ → List ℕ → List ℕ
+group g rest = 0x47 ∷ 0x52 ∷ g ∷ 0x00 ∷ 0x00 ∷ 0x00 ∷ 0x00 ∷ 0x00 ∷ 0x00 ∷ 0x00 ∷ rest
+
+abbrev pub share : ℕ → List ℕ → List ℕ
+share x rest = 0x53 ∷ 0x48 ∷ x ∷ 0x00 ∷ 0x00 ∷ 0x00 ∷ rest
+
+abbrev pub T : List ℕ
+T = head 1 (site 0 1 0x0A [])
+
+-- the example of each row, from row 1 on; document 01 gives no shares with those of rows 12 and 13, and s = 10 is used
+unfoldable pub refusals : List Pair
+refusals =
+    -- no bytes
+    pair [] []
+    -- 4C 53 01 02
+    ∷ pair (0x4C ∷ 0x53 ∷ 0x01 ∷ 0x02 ∷ []) []
+    -- T's list less its last byte
+    ∷ pair (head 1 (0x53 ∷ 0x54 ∷ 0x00 ∷ 0x01 ∷ 0x0A ∷ [])) []
+    -- T's list with 53 55
+    ∷ pair (head 1 (0x53 ∷ 0x55 ∷ 0x00 ∷ 0x01 ∷ 0x0A ∷ 0x00 ∷ [])) []
+    -- site 53 54 00 40 0A 00
+    ∷ pair (head 1 (site 0x00 0x40 0x0A [])) []
+    -- site 53 54 00 01 00 00
+    ∷ pair (head 1 (site 0x00 0x01 0x00 [])) []
+    -- 50 4D 01 01 00
+    ∷ pair T (0x50 ∷ 0x4D ∷ 0x01 ∷ 0x01 ∷ 0x00 ∷ [])
+    -- 50 4C 41 01 00
+    ∷ pair T (plan 0x41 1 [])
+    -- T, 50 4C 01 02 00
+    ∷ pair T (plan 1 2 [])
+    -- T's plan and one byte
+    ∷ pair T (plan 1 1 (group 3 (share 10 (0x00 ∷ []))))
+    -- T's plan with 53 47
+    ∷ pair T (plan 1 1 (group 3 (0x53 ∷ 0x47 ∷ 0x0A ∷ 0x00 ∷ 0x00 ∷ 0x00 ∷ [])))
+    -- T, groups {0}, {0,1}
+    ∷ pair T (plan 2 1 (group 1 (group 3 (share 10 []))))
+    -- T, group {0}
+    ∷ pair T (plan 1 1 (group 1 (share 10 [])))
+    -- T, s = 21
+    ∷ pair T (plan 1 1 (group 3 (share 21 [])))
+    -- T, s = 11
+    ∷ pair T (plan 1 1 (group 3 (share 11 [])))
+    -- own sites 0 and 1 of 4, groups {0}, {1}, shares 4, 4
+    ∷ pair (head 2 (site 0 0 4 (site 1 1 4 []))) (plan 2 2 (group 1 (group 2 (share 4 (share 4 [])))))
+    ∷ []
