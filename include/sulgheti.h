@@ -63,7 +63,7 @@ int64_t sulgheti_add(uint8_t *store, size_t store_len, uint8_t *table, size_t ta
 int64_t sulgheti_propose(uint8_t *store, size_t store_len, uint8_t *table, size_t table_len,
                          const uint8_t *plan, size_t plan_len);
 
-/* A site's s, and its w x q: 0, or rows 0, 17, 18. The figures are written only where 0 is answered. */
+/* A site's s, and its w x q: 0, or rows 0, 17, 18. Unless 0 is answered the figures stay as they were. */
 int64_t sulgheti_share(uint8_t *store, size_t store_len, uint8_t *table, size_t table_len,
                        size_t site, uint64_t *share, uint64_t *whole);
 
