@@ -19,7 +19,7 @@ use Rattle.records.specs.Record.{records}
 use Rattle.records.specs.Format.{edition1, readList, readPlan}
 use Rattle.records.specs.Write.{listBytes, planBytes}
 use Rattle.judge.specs.Check.{checkRow}
-use Rattle.judge.specs.Refusals.{pair, refusals}
+use Rattle.judge.specs.Refusals.{given, listT, refusals}
 
 -- an example's list and plan as bytes
 abbrev pub listOf : Example → List ℕ
@@ -41,10 +41,7 @@ pub no-sites-passes : checkRow edition1 (0x4C ∷ 0x53 ∷ 0 ∷ 0 ∷ []) (0x50
 unfolding checkRow readList readPlan value records sum all any has weigh size network firstRow planRows groupsMeet groupsUnlisted sharesBroken shareBroken loadsUneven scaledLoad shareOf target groupsRise place union carrier groupSize groupLitres whole firstShare secondShare
 no-sites-passes = refl
 
--- "T is the list 4C 53 01 00 53 54 00 01 0A 00. Its plan is 50 4C 01 01 00 47 52 03 00 00 00 00 00 00 00 53 48 0A 00 00 00."
-abbrev pub listT : List ℕ
-listT = 0x4C ∷ 0x53 ∷ 1 ∷ 0 ∷ 0x53 ∷ 0x54 ∷ 0 ∷ 1 ∷ 0x0A ∷ 0 ∷ []
-
+-- "Its plan is 50 4C 01 01 00 47 52 03 00 00 00 00 00 00 00 53 48 0A 00 00 00."
 abbrev pub planT : List ℕ
 planT =
     0x50 ∷ 0x4C ∷ 1 ∷ 1 ∷ 0 ∷ 0x47 ∷ 0x52 ∷ 3 ∷ 0 ∷ 0 ∷ 0 ∷ 0 ∷ 0 ∷ 0 ∷ 0 ∷ 0x53 ∷ 0x48 ∷ 0x0A ∷ 0 ∷ 0 ∷ 0 ∷ []
@@ -58,10 +55,10 @@ unfolding starred listBytes planBytes flatMap le
 T-is = (refl, refl)
 
 -- the examples of rows 1 to 16: each gets its row
-computed-rows : T (all (λ k. hasRow (checkRow edition1 (getD refusals k (pair [] []) .list) (getD refusals k (pair [] []) .plan)) (k + 1)) (length refusals))
+computed-rows : T (all (λ k. hasRow (checkRow edition1 (getD refusals k (given [] []) .list) (getD refusals k (given [] []) .plan)) (k + 1)) (length refusals))
 unfolding hasRow refusals checkRow readList readPlan value records sum all any has weigh size network firstRow planRows groupsMeet groupsUnlisted sharesBroken shareBroken loadsUneven scaledLoad shareOf target groupsRise place union carrier groupSize groupLitres whole firstShare secondShare
 computed-rows = tt
 
-pub rows-refused : (k : ℕ) → k < length refusals → checkRow edition1 (getD refusals k (pair [] []) .list) (getD refusals k (pair [] []) .plan) ≡ some (k + 1)
+pub rows-refused : (k : ℕ) → k < length refusals → checkRow edition1 (getD refusals k (given [] []) .list) (getD refusals k (given [] []) .plan) ≡ some (k + 1)
 rows-refused k l =
-    hasRow→ _ _ (all-at (λ k. hasRow (checkRow edition1 (getD refusals k (pair [] []) .list) (getD refusals k (pair [] []) .plan)) (k + 1)) (length refusals) computed-rows k l)
+    hasRow→ _ _ (all-at (λ k. hasRow (checkRow edition1 (getD refusals k (given [] []) .list) (getD refusals k (given [] []) .plan)) (k + 1)) (length refusals) computed-rows k l)

@@ -2,13 +2,13 @@
 use mathlib.Core.List.{List, [], _∷_}
 use Prim.Native.Nat.{ℕ}
 
--- a list and a plan
-pub record Pair : Type 0 where
+-- what Check is given
+pub record Given : Type 0 where
   pub list : List ℕ
   pub plan : List ℕ
 
-abbrev pub pair : List ℕ → List ℕ → Pair
-pair list plan = record { list = list; plan = plan }
+abbrev pub given : List ℕ → List ℕ → Given
+given list plan = record { list = list; plan = plan }
 
 -- "4C 53, site count (2)"; "53 54, first depot (1), second depot (1), litres (2)"
 abbrev pub head : ℕ → List ℕ → List ℕ
@@ -27,42 +27,43 @@ group g rest = 0x47 ∷ 0x52 ∷ g ∷ 0x00 ∷ 0x00 ∷ 0x00 ∷ 0x00 ∷ 0x00 
 abbrev pub share : ℕ → List ℕ → List ℕ
 share x rest = 0x53 ∷ 0x48 ∷ x ∷ 0x00 ∷ 0x00 ∷ 0x00 ∷ rest
 
-abbrev pub T : List ℕ
-T = head 1 (site 0 1 0x0A [])
+-- "T is the list 4C 53 01 00 53 54 00 01 0A 00."
+abbrev pub listT : List ℕ
+listT = 0x4C ∷ 0x53 ∷ 0x01 ∷ 0x00 ∷ 0x53 ∷ 0x54 ∷ 0x00 ∷ 0x01 ∷ 0x0A ∷ 0x00 ∷ []
 
 -- the example of each row, from row 1 on; document 01 gives no shares with those of rows 12 and 13, and s = 10 is used
-unfoldable pub refusals : List Pair
+unfoldable pub refusals : List Given
 refusals =
     -- no bytes
-    pair [] []
+    given [] []
     -- 4C 53 01 02
-    ∷ pair (0x4C ∷ 0x53 ∷ 0x01 ∷ 0x02 ∷ []) []
+    ∷ given (0x4C ∷ 0x53 ∷ 0x01 ∷ 0x02 ∷ []) []
     -- T's list less its last byte
-    ∷ pair (head 1 (0x53 ∷ 0x54 ∷ 0x00 ∷ 0x01 ∷ 0x0A ∷ [])) []
+    ∷ given (head 1 (0x53 ∷ 0x54 ∷ 0x00 ∷ 0x01 ∷ 0x0A ∷ [])) []
     -- T's list with 53 55
-    ∷ pair (head 1 (0x53 ∷ 0x55 ∷ 0x00 ∷ 0x01 ∷ 0x0A ∷ 0x00 ∷ [])) []
+    ∷ given (head 1 (0x53 ∷ 0x55 ∷ 0x00 ∷ 0x01 ∷ 0x0A ∷ 0x00 ∷ [])) []
     -- site 53 54 00 40 0A 00
-    ∷ pair (head 1 (site 0x00 0x40 0x0A [])) []
+    ∷ given (head 1 (site 0x00 0x40 0x0A [])) []
     -- site 53 54 00 01 00 00
-    ∷ pair (head 1 (site 0x00 0x01 0x00 [])) []
+    ∷ given (head 1 (site 0x00 0x01 0x00 [])) []
     -- 50 4D 01 01 00
-    ∷ pair T (0x50 ∷ 0x4D ∷ 0x01 ∷ 0x01 ∷ 0x00 ∷ [])
+    ∷ given listT (0x50 ∷ 0x4D ∷ 0x01 ∷ 0x01 ∷ 0x00 ∷ [])
     -- 50 4C 41 01 00
-    ∷ pair T (plan 0x41 1 [])
+    ∷ given listT (plan 0x41 1 [])
     -- T, 50 4C 01 02 00
-    ∷ pair T (plan 1 2 [])
+    ∷ given listT (plan 1 2 [])
     -- T's plan and one byte
-    ∷ pair T (plan 1 1 (group 3 (share 10 (0x00 ∷ []))))
+    ∷ given listT (plan 1 1 (group 3 (share 10 (0x00 ∷ []))))
     -- T's plan with 53 47
-    ∷ pair T (plan 1 1 (group 3 (0x53 ∷ 0x47 ∷ 0x0A ∷ 0x00 ∷ 0x00 ∷ 0x00 ∷ [])))
+    ∷ given listT (plan 1 1 (group 3 (0x53 ∷ 0x47 ∷ 0x0A ∷ 0x00 ∷ 0x00 ∷ 0x00 ∷ [])))
     -- T, groups {0}, {0,1}
-    ∷ pair T (plan 2 1 (group 1 (group 3 (share 10 []))))
+    ∷ given listT (plan 2 1 (group 1 (group 3 (share 10 []))))
     -- T, group {0}
-    ∷ pair T (plan 1 1 (group 1 (share 10 [])))
+    ∷ given listT (plan 1 1 (group 1 (share 10 [])))
     -- T, s = 21
-    ∷ pair T (plan 1 1 (group 3 (share 21 [])))
+    ∷ given listT (plan 1 1 (group 3 (share 21 [])))
     -- T, s = 11
-    ∷ pair T (plan 1 1 (group 3 (share 11 [])))
+    ∷ given listT (plan 1 1 (group 3 (share 11 [])))
     -- own sites 0 and 1 of 4, groups {0}, {1}, shares 4, 4
-    ∷ pair (head 2 (site 0 0 4 (site 1 1 4 []))) (plan 2 2 (group 1 (group 2 (share 4 (share 4 [])))))
+    ∷ given (head 2 (site 0 0 4 (site 1 1 4 []))) (plan 2 2 (group 1 (group 2 (share 4 (share 4 [])))))
     ∷ []

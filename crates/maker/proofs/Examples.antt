@@ -8,7 +8,7 @@ use lib.ListN.{take}
 use Rattle.sets.specs.Sum.{all, any}
 use Rattle.density.specs.Network.{Listing, network, depotsInRange}
 use Rattle.density.specs.Groups.{groupsOf}
-use Rattle.density.specs.Examples.{pair, own, starred}
+use Rattle.density.specs.Examples.{own, starred}
 use Rattle.density.proofs.Lists.{valid}
 use Rattle.density.proofs.Examples.{starred-known}
 use Rattle.density.proofs.Existence.{decomposition-is}
@@ -17,32 +17,23 @@ use Rattle.records.specs.Bytes.{value}
 use Rattle.records.specs.Record.{records}
 use Rattle.records.specs.Outcome.{passed}
 use Rattle.records.specs.Format.{edition1, readList, planOf}
+use Rattle.records.proofs.Samples.{T as T-list, bytesT, T-read}
 use Rattle.density.specs.Rows.{firstRow}
 use Rattle.maker.specs.Make.{Made}
 use Rattle.maker.proofs.Made.{groups-written}
 
--- T, and "Own 0 of 7"
-abbrev listT : List ℕ
-listT = 0x4C ∷ 0x53 ∷ 1 ∷ 0 ∷ 0x53 ∷ 0x54 ∷ 0 ∷ 1 ∷ 0x0A ∷ 0 ∷ []
-
+-- "Own 0 of 7"
 abbrev listO : List ℕ
 listO = 0x4C ∷ 0x53 ∷ 1 ∷ 0 ∷ 0x53 ∷ 0x54 ∷ 0 ∷ 0 ∷ 0x07 ∷ 0 ∷ []
 
-abbrev sitesT : Listing
-sitesT = record { sites = pair 0 1 10 ∷ [] }
-
 abbrev sitesO : Listing
 sitesO = record { sites = own 0 7 ∷ [] }
-
-reads-T : readList edition1 512 listT ≡ passed sitesT
-unfolding readList firstRow value records any
-reads-T = refl
 
 reads-O : readList edition1 512 listO ≡ passed sitesO
 unfolding readList firstRow value records any
 reads-O = refl
 
-in-range-T : T (depotsInRange sitesT)
+in-range-T : T (depotsInRange T-list)
 unfolding depotsInRange all
 in-range-T = tt
 
@@ -50,18 +41,18 @@ in-range-O : T (depotsInRange sitesO)
 unfolding depotsInRange all
 in-range-O = tt
 
-groups-T : groupsOf (network sitesT) ≡ 3 ∷ []
+groups-T : groupsOf (network T-list) ≡ 3 ∷ []
 unfolding starred
-groups-T = sym (decomposition-is (network sitesT) (valid sitesT in-range-T) (3 ∷ []) (starred-known 1 (lit< tt) .plan .groups))
+groups-T = sym (decomposition-is (network T-list) (valid T-list in-range-T) (3 ∷ []) (starred-known 1 (lit< tt) .plan .groups))
 
 groups-O : groupsOf (network sitesO) ≡ 1 ∷ []
 unfolding starred
 groups-O = sym (decomposition-is (network sitesO) (valid sitesO in-range-O) (1 ∷ []) (starred-known 2 (lit< tt) .plan .groups))
 
-pub not-one-plan : (out out' last last' : List ℕ) (n n' : ℕ) → Made edition1 (readList edition1 512 listT) out (Length n) last
+pub not-one-plan : (out out' last last' : List ℕ) (n n' : ℕ) → Made edition1 (readList edition1 512 bytesT) out (Length n) last
     → Made edition1 (readList edition1 512 listO) out' (Length n') last' → take n last ≡ take n' last' → ⊥
 not-one-plan out out' last last' n n' m m' e =
-    let g = groups-written edition1 listT out last n reads-T m in
+    let g = groups-written edition1 bytesT out last n T-read m in
     let g' = groups-written edition1 listO out' last' n' reads-O m' in
     let k : _≡_ {A = List ℕ} (3 ∷ []) (1 ∷ []) = sym groups-T ∙ sym g ∙ ap (λ (s : List ℕ). planOf edition1 1 s .groups) e ∙ g' ∙ groups-O in
     let z : _≡_ {A = ℕ} 3 1 = cc in

@@ -1,7 +1,9 @@
 // Lines of a script: words, bytes in hexadecimal, decimal numbers, and a line put together byte by byte.
 ghost use mathlib.Core.Path.{_≡_};
-ghost use Prim.Native.Nat.{_≤_, _<_, _*_, _/_, min};
-ghost use lib.ListN.{length, take, drop};
+ghost use mathlib.Core.Bool.{cond};
+ghost use Prim.Native.Nat.{_≤_, _<_, _+_, _*_, _/_, min};
+ghost use lib.Dec.{ltb};
+ghost use lib.ListN.{length, take, drop, set};
 ghost use Rattle.io.specs.Counts.{Counts};
 ghost use Rattle.script.specs.Hex.{digitOf, glyphOf, digitsOf, byteOf, bytesOf, allDigits, isNone, isBytes};
 ghost use Rattle.script.specs.Decimal.{numberOf};
@@ -158,11 +160,12 @@ fn least(a: usize, b: usize) -> usize
     if a < b { a } else { b }
 }
 
-// Puts the bytes of a word at the front of `out`, as many as find place, and answers how many.
+// Puts the bytes of a word at the front of `out`, as many as find place, and answers how many. The bytes behind them stay.
 pub fn decode(text: &[u8], out: &mut [u8]) -> usize
     ensures { λ r. ⌜ Counts r (now (out .exit)) ⌝ }
     ensures { λ r. ⌜ r ≡ min (length (now (text .entry)) / 2) (length (now (out .entry))) ⌝ }
     ensures { λ r. ⌜ take r (now (out .exit)) ≡ take r (bytesOf (now (text .entry))) ⌝ }
+    ensures { λ r. ⌜ drop r (now (out .exit)) ≡ drop r (now (out .entry)) ⌝ }
 {
     let n = least(text.len() / 2, out.len());
     let mut i = 0;
@@ -173,11 +176,12 @@ pub fn decode(text: &[u8], out: &mut [u8]) -> usize
     n
 }
 
-// Puts two digits for each byte at the front of `out`, as many as find place, and answers how many.
+// Puts two digits for each byte at the front of `out`, as many as find place, and answers how many. The bytes behind them stay.
 pub fn encode(bytes: &[u8], out: &mut [u8]) -> usize
     ensures { λ r. ⌜ Counts r (now (out .exit)) ⌝ }
     ensures { λ r. ⌜ r ≡ 2 * min (length (now (bytes .entry))) (length (now (out .entry)) / 2) ⌝ }
     ensures { λ r. ⌜ take r (now (out .exit)) ≡ take r (digitsOf (now (bytes .entry))) ⌝ }
+    ensures { λ r. ⌜ drop r (now (out .exit)) ≡ drop r (now (out .entry)) ⌝ }
 {
     let n = least(bytes.len(), out.len() / 2);
     let mut i = 0;
@@ -216,8 +220,11 @@ pub fn decimal(text: &[u8], most: u64) -> Number
     Number::Value(v)
 }
 
-// Puts a byte behind the `used` bytes of a line, and answers how many are used then: one more than there are places where the line is too long.
-pub fn put(line: &mut [u8], used: usize, b: u8) -> usize {
+// Puts a byte behind the `used` bytes of a line, and answers how many are used then: one more than there are places where the line is too long, which then stays.
+pub fn put(line: &mut [u8], used: usize, b: u8) -> usize
+    ensures { λ r. ⌜ r ≡ cond (ltb used (length (now (line .entry)))) (used + 1) (length (now (line .entry)) + 1) ⌝ }
+    ensures { λ _. ⌜ now (line .exit) ≡ set (now (line .entry)) used b ⌝ }
+{
     if used < line.len() {
         line[used] = b;
         used + 1
