@@ -14,8 +14,9 @@ use Rattle.sets.proofs.Member.{has-setOf, member-lt}
 use Rattle.sets.proofs.Sum.{sum-cong, sum-cut}
 use Rattle.sets.proofs.Test.{T?, and-i, and-l, and-r, is-false, is-true, or-cases, or-l, or-r, passes, when-off, when-on, when-zero}
 use Rattle.density.specs.Groups.{Candidate}
-use Rattle.density.specs.Network.{Network, Valid, counts, litres, size, touches, within}
-use Rattle.density.proofs.Level.{Spread, end, loadOf, touches-cases, touches-end, within-end, within-ends}
+use Rattle.density.specs.Network.{Network, Valid, counts, litres, size, touches, within, end}
+use Rattle.density.proofs.Lists.{end-small}
+use Rattle.density.proofs.Level.{Spread, loadOf, touches-cases, touches-end, within-end, within-ends}
 use Rattle.density.proofs.Split.{Onward, Settled, level}
 use Rattle.residual.specs.Array.{arcLoad, at}
 use Rattle.residual.specs.Search.{reverse}
@@ -54,12 +55,8 @@ module _ {N : Network} {ends litre crews : List ℕ} {listed : ℕ} (h : Holds N
   low : (i : ℕ) → i < N .count → i < 512
   low i l = omega (arith, h .few)
 
-  end-lt : (e : Bool) (i : ℕ) → i < N .count → end e (N .site i) < 64
-  end-lt true i l = ok .small _ (ok .first-listed i l)
-  end-lt false i l = ok .small _ (ok .second-listed i l)
-
   end-at : (e : Bool) (i : ℕ) → i < N .count → at ends (arc e i) < 64
-  end-at e i l = rw (h .depot e i l) (end-lt e i l)
+  end-at e i l = rw (h .depot e i l) (end-small N ok e i l)
 
   far : (e : Bool) (i : ℕ) → i < N .count → at ends (reverse (arc e i)) ≡ end (not e) (N .site i)
   far e i l = ap (at ends) (reverse-arc e i (low i l)) ∙ h .depot (not e) i l
@@ -74,8 +71,8 @@ module _ {N : Network} {ends litre crews : List ℕ} {listed : ℕ} (h : Holds N
       → at share′ (arc e i) + at share′ (arc (not e) i) ≡ N .site i .litres * size N (has set)
   whole-arc e i l t u =
       let w = a .outcome .whole (arc e i) i (arc-lt e i (low i l)) (end-at e i l) (arc-is e i) (low i l)
-      (rw (h .depot e i l) (rank-in _ (end-lt e i l) t))
-      (⊎-elim (λ p. inl (rw (far e i l) (rank-in _ (end-lt (not e) i l) p))) (λ p. inr (rw (far e i l) (is-true _ p))) u) in
+      (rw (h .depot e i l) (rank-in _ (end-small N ok e i l) t))
+      (⊎-elim (λ p. inl (rw (far e i l) (rank-in _ (end-small N ok (not e) i l) p))) (λ p. inr (rw (far e i l) (is-true _ p))) u) in
       ap (λ (j : ℕ). at share′ (arc e i) + at share′ j) (sym (reverse-arc e i (low i l)))
       ∙ w
       ∙ ap₂ _*_ (scale ∙ size-held h (has set)) (h .litre i l)
@@ -94,8 +91,8 @@ module _ {N : Network} {ends litre crews : List ℕ} {listed : ℕ} (h : Holds N
         (λ p. absurd (cand .free _ p b))
         (λ p.
         a .outcome .grouped (arc e i) (arc-lt e i (low i l))
-        (rw (h .depot e i l) (rank-out _ (end-lt e i l) (λ z. cand .free _ z b)))
-        (rw (far e i l) (rank-in _ (end-lt (not e) i l) p)))
+        (rw (h .depot e i l) (rank-out _ (end-small N ok e i l) (λ z. cand .free _ z b)))
+        (rw (far e i l) (rank-in _ (end-small N ok (not e) i l) p)))
         (touches-cases (has set) (N .site i) (and-r (within (has set ∪ has before) (N .site i)) (touches (has set) (N .site i)) t) e);
   }
 
@@ -113,8 +110,8 @@ module _ {N : Network} {ends litre crews : List ℕ} {listed : ℕ} (h : Holds N
           (touches-end (has set) (N .site i) e p)) in
           when-on (eqb (end e (N .site i)) d) (at share′ (arc e i)) k
           ∙ a .outcome .beyond (arc e i) (arc-lt e i (low i l))
-          (rw (h .depot e i l) (rank-in _ (end-lt e i l) p))
-          (rw (far e i l) (rank-out _ (end-lt (not e) i l) (λ z. out (or-l (has set (end (not e) (N .site i))) (has before (end (not e) (N .site i))) z))))
+          (rw (h .depot e i l) (rank-in _ (end-small N ok e i l) p))
+          (rw (far e i l) (rank-out _ (end-small N ok (not e) i l) (λ z. out (or-l (has set (end (not e) (N .site i))) (has before (end (not e) (N .site i))) z))))
           (rw (far e i l) (is-false _ (λ z. out (or-r (has set (end (not e) (N .site i))) (has before (end (not e) (N .site i))) z))))
 
   load-held : (d : ℕ) → T (has set d) → arcLoad ends d share′ ≡ loadOf N (has before) (has set) (sharesOf share′) d
@@ -176,7 +173,7 @@ module _ {N : Network} {ends litre crews : List ℕ} {listed : ℕ} (h : Holds N
             let other : at ends (reverse (w .arc)) ≡ end (not e) (N .site i) = ap (λ (j : ℕ). at ends (reverse j)) z ∙ far e i l in
             let ahead : at (a .rank) (end (not e) (N .site i)) < at (a .rank) d = omega (arith, w .earlier, ap (at (a .rank)) other) in
             let here : T (has set (end e (N .site i))) = subst (λ (x : ℕ). T (has set x)) (sym (sym (h .depot e i l) ∙ from)) t in
-            let there = rest-in (end (not e) (N .site i)) (end-lt (not e) i l) (omega arith) in
+            let there = rest-in (end (not e) (N .site i)) (end-small N ok (not e) i l) (omega arith) in
             record {
               site = i;
               number = l;
@@ -204,8 +201,8 @@ module _ {N : Network} {ends litre crews : List ℕ} {listed : ℕ} (h : Holds N
       closed = λ e i l t p k.
           ⊎-elim
           (λ (z : 0 < at share′ (arc e i)).
-          absurd (a .outcome .closed (end (not e) (N .site i)) (record { depot = end-lt (not e) i l; within = rest-rank _ k }) (arc e i) (arc-lt e i (low i l)) z (far e i l)
-          (rw (h .depot e i l) (full-rank _ (end-lt e i l) p))))
+          absurd (a .outcome .closed (end (not e) (N .site i)) (record { depot = end-small N ok (not e) i l; within = rest-rank _ k }) (arc e i) (arc-lt e i (low i l)) z (far e i l)
+          (rw (h .depot e i l) (full-rank _ (end-small N ok e i l) p))))
           (λ (z : at share′ (arc e i) ≤ 0). omega arith)
           (below? 0 (at share′ (arc e i)));
       onward = λ d t.

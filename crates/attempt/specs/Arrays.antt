@@ -6,9 +6,8 @@ use Prim.Native.Nat.{ℕ, _+_, _*_, _≤_, _<_, _^_}
 use lib.ListN.{length, take}
 use Rattle.sets.specs.Sum.{sum}
 use Rattle.sets.specs.Set.{has}
-use Rattle.density.specs.Network.{Network, Valid}
+use Rattle.density.specs.Network.{Network, Valid, end}
 use Rattle.density.specs.Plan.{TruePlan}
-use Rattle.density.proofs.Level.{end}
 use Rattle.residual.specs.Array.{at}
 use Rattle.residual.specs.Search.{reverse, Paired}
 use Rattle.attempt.specs.Lay.{Listed}

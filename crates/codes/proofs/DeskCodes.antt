@@ -43,7 +43,13 @@ module _ {s t s' t' buffer : List ℕ} {c : Call} {a : Told} (x : Called s t c a
 
   moved : Moved s t c s' t'
   moved =
-      record { store = ap (λ (l : Lent). l .store) (x .is); table = ap (λ (l : Lent). l .table) (x .is); long = x .long; reads = x .reads }
+      record {
+        store = ap (λ (l : Lent). l .store) (x .is);
+        table = ap (λ (l : Lent). l .table) (x .is);
+        long = x .long;
+        reads = x .reads;
+        bytes = x .bytes;
+      }
 
   pub did : {r : ℤ} → r ≡ doneCode a → Did s t c r s' t'
   did e = record { code = e ∙ ap doneCode answer-is; moved = moved }

@@ -6,6 +6,7 @@ use mathlib.Core.Path.{_≡_}
 use lib.Dec.{eqb}
 use lib.IntN.{ℤ, pos, negℤ}
 use lib.ListN.{length}
+use Rattle.records.specs.Bytes.{Bytes}
 use Rattle.store.specs.Calls.{Call, Told, refused, done, shared, loaded, differ, wrote}
 use Rattle.store.specs.State.{bare, step}
 use Rattle.edition1.specs.Edition1.{fresh1}
@@ -63,12 +64,14 @@ differenceOf (wrote n) x = x
 abbrev pub outcomeOf : Told → ℕ → ℕ → ℤ → Coded
 outcomeOf a x y z = record { code = doneCode a; first = firstOf a x; second = secondOf a y; difference = differenceOf a z }
 
--- What an exported function does to the bytes of the store and of the table: what the call does; and they stand for the state after its step.
+-- What an exported function does to the bytes of the store and of the table: what the call does; they stand for the state after its step; and its
+-- input is bytes.
 pub record Moved (s t : List ℕ) (c : Call) (s' t' : List ℕ) : Type 0 where
   pub store : s' ≡ call s t c .store
   pub table : t' ≡ call s t c .table
   pub long : length s' ≡ length s
   pub reads : isSized s ≡ true → stateIn s' t' ≡ step (stateIn s t) c .after
+  pub bytes : Bytes (c .input)
 
 pub record Did (s t : List ℕ) (c : Call) (r : ℤ) (s' t' : List ℕ) : Type 0 where
   pub code : r ≡ doneCode (call s t c .reply .answer)

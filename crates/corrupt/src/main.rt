@@ -1,5 +1,6 @@
 // Desks and tables that no history leaves behind, put to the desk's entry. Where row 0 applies, every call but load is refused by it, and the desk, the table and the
 // buffer come back as they were; load works. Where only rows 15 or 16 would refuse the held plan, or the content lies beyond what is held, the desk answers from what it holds.
+// Then tables of 0, 3, 512 and 600 places: a call stores what it is to store, and every other place keeps its content.
 use edition1::Request1;
 use edition1::Store1;
 use edition1::fresh1;
@@ -363,10 +364,80 @@ fn beside(start: Tally) -> Tally {
     cleared(v, d, Request1::Change(0, 10), 1)
 }
 
+// The table with another site at a place, if it has that place.
+fn with_place(table: [Site1; 600], k: usize, x: Site1) -> [Site1; 600] {
+    let mut t = table;
+    if k < 600 {
+        t[k] = x;
+    }
+    t
+}
+
+// The call is done, this many sites are held then and no plan, this site stands at this place, and all other places keep their content.
+fn stores(d: Desk, request: Request1, input: &[u8], count: usize, k: usize, x: Site1) -> bool {
+    if !clears(d, request, input, count) {
+        return false;
+    }
+    let left = called(d, request, input);
+    let out = left.out;
+    let before = d.table;
+    let expected = with_place(before, k, x);
+    let table = out.table;
+    if !same_table(expected, table) {
+        return false;
+    }
+    left.blank
+}
+
+// A change of the last site held and an add.
+fn stored_one(start: Tally, d: Desk, last: usize, count: usize, all: usize) -> Tally {
+    let change = Request1::Change(last, 7);
+    let t = tallied(start, stores(d, change, b"", count, last, site(2, 3, 7)));
+    let add = Request1::Add(4, 5, 6);
+    tallied(t, stores(d, add, b"", all, count, site(4, 5, 6)))
+}
+
+// The list T.
+fn stored_list(t: Tally, d: Desk) -> Tally {
+    let list = b"LS\x01\x00ST\x00\x01\x0A\x00";
+    tallied(t, stores(d, Request1::Load, list, 1, 0, site(0, 1, 10)))
+}
+
+// Calls that are refused: no bytes, a site that is not held, and a site more than the table has places, or than 512.
+fn stored_none(start: Tally, d: Desk, count: usize, full: Desk) -> Tally {
+    let t = asked(start, d, Request1::Load, Answer::Refused(1));
+    let u = asked(t, d, Request1::Change(count, 7), Answer::Refused(18));
+    asked(u, full, Request1::Add(4, 5, 6), Answer::Refused(2))
+}
+
+// A table of so many places, of which all, or 512, can hold sites, and all of these but one do.
+fn lent(start: Tally, last: usize, count: usize, all: usize, places: usize) -> Tally {
+    let x = site(2, 3, 5);
+    let d = listed(count, x, x, x, places);
+    let full = listed(all, x, x, x, places);
+    let t = stored_list(stored_one(start, d, last, count, all), d);
+    stored_none(t, d, count, full)
+}
+
+// A table of no places.
+fn lent_none(start: Tally) -> Tally {
+    let x = site(2, 3, 5);
+    let d = listed(0, x, x, x, 0);
+    let list = b"LS\x01\x00ST\x00\x01\x0A\x00";
+    let t = tallied(start, stays(d, Request1::Load, list, Answer::Refused(2)));
+    let u = asked(t, d, Request1::Change(0, 7), Answer::Refused(18));
+    let v = asked(u, d, Request1::Add(4, 5, 6), Answer::Refused(2));
+    let empty = stores(d, Request1::Load, b"LS\x00\x00", 0, 600, x);
+    tallied(v, empty)
+}
+
 fn main() {
     let none = tally::nothing();
     let lists = corrupt_sites(corrupt_counts(none));
     let plans = corrupt_own(corrupt_shares(corrupt_groups(lists)));
     let t = beside(beyond(rising(uneven(plans))));
     tally::print(b"corrupt desks", t);
+    let some = lent(lent_none(none), 1, 2, 3, 3);
+    let many = lent(some, 510, 511, 512, 512);
+    tally::print(b"lent tables", lent(many, 510, 511, 512, 600));
 }

@@ -7,9 +7,8 @@ use Prim.Native.Nat.{_+_, _<_, _^_, _≤_, suc, zero, ℕ}
 use native.Mathlib.Omega.{arith}
 use lib.ListN.{getD, length, length-set, replicate, set, take}
 use lib.Seq.{getD-set-other, getD-set-same}
-use Rattle.density.specs.Network.{noSite}
+use Rattle.density.specs.Network.{noSite, end}
 use Rattle.density.specs.declared.Site.{Site}
-use Rattle.density.proofs.Level.{end}
 use Rattle.residual.specs.Array.{at}
 use Rattle.residual.proofs.Laws.{below?, stored}
 use Rattle.attempt.specs.Arrays.{arc}

@@ -12,11 +12,10 @@ use Rattle.sets.specs.Set.{has, setOf}
 use Rattle.sets.specs.Sum.{sum}
 use Rattle.sets.proofs.Member.{has-set}
 use Rattle.sets.proofs.Sum.{sum-≤}
-use Rattle.density.specs.Network.{Network, Valid, depotsInRange, network, noSite}
+use Rattle.density.specs.Network.{Network, Valid, depotsInRange, network, noSite, end}
 use Rattle.density.specs.Plan.{TruePlan}
 use Rattle.density.specs.declared.Site.{Site}
 use Rattle.density.proofs.Existence.{decomposition-is}
-use Rattle.density.proofs.Level.{end}
 use Rattle.density.proofs.Lists.{valid}
 use Rattle.records.specs.Values.{listing}
 use Rattle.records.specs.declared.ListArray.{ListArray}

@@ -5,8 +5,7 @@ use mathlib.Core.List.{List}
 use Prim.Native.Nat.{ℕ, _≤_, _<_, _^_}
 use lib.ListN.{length, getD, take}
 use Rattle.density.specs.declared.Site.{Site}
-use Rattle.density.specs.Network.{noSite}
-use Rattle.density.proofs.Level.{end}
+use Rattle.density.specs.Network.{noSite, end}
 use Rattle.residual.specs.Array.{at}
 use Rattle.attempt.specs.Arrays.{arc}
 

@@ -1,28 +1,20 @@
 -- Networks with the same sites, the same listed depots and the same crews of these have the same groups, figures and true plans. Assumes nothing.
 use mathlib.Core.Path.{_≡_, sym, ap, ap₂, _∙_, subst}
-use mathlib.Core.Logic.{⊎-elim}
-use mathlib.Core.Bool.{Bool}
 use mathlib.Core.List.{List, [], _∷_}
 use Prim.Native.Nat.{ℕ, _+_, _-_, _*_, _≤_, _<_}
 use lib.Dec.{T, eqb}
 use lib.ListN.{length}
 use Rattle.sets.specs.Sum.{when, sum}
 use Rattle.sets.specs.Set.{Depots, ∅, _∪_, _⊆_, has, weigh}
-use Rattle.density.specs.Network.{Network, Valid, counts, litres, size}
+use Rattle.density.specs.Network.{Network, Valid, counts, litres, size, Agree}
 use Rattle.density.specs.declared.Site.{Site}
 use Rattle.density.specs.Groups.{Candidate, exceeds, Next, Follow, Decomposition}
 use Rattle.density.specs.Plan.{group, place, carrier, groupSize, groupLitres, whole, firstShare, secondShare, Rules, shareOf, load, target, TruePlan}
-use Rattle.sets.proofs.Test.{T?, when-off, when-on}
+use Rattle.sets.proofs.Test.{when-cong-on}
 use Rattle.sets.proofs.Sum.{sum-cong}
 use Rattle.density.proofs.Places.{follow-next}
 use Rattle.density.proofs.Plans.{complete}
 use Rattle.density.proofs.Totals.{carrier-lt}
-
-pub record Agree (N M : Network) : Type 0 where
-  pub count : N .count ≡ M .count
-  pub site : (i : ℕ) → N .site i ≡ M .site i
-  pub listed : N .listed ≡ M .listed
-  pub crews : (d : ℕ) → T (N .listed d) → N .crews d ≡ M .crews d
 
 pub agree-back : (N M : Network) → Agree N M → Agree M N
 agree-back N M a =
@@ -32,10 +24,6 @@ agree-back N M a =
       listed = sym (a .listed);
       crews = λ d t. sym (a .crews d (subst (λ (X : Depots). T (X d)) (sym (a .listed)) t));
     }
-
-when-crews : (b : Bool) (m n : ℕ) → (T b → m ≡ n) → when b m ≡ when b n
-when-crews b m n e =
-    ⊎-elim (λ t. when-on b m t ∙ e t ∙ sym (when-on b n t)) (λ f. when-off b m f ∙ sym (when-off b n f)) (T? b)
 
 module _ (N M : Network) (a : Agree N M) where
   -- a sum over the sites
@@ -48,7 +36,7 @@ module _ (N M : Network) (a : Agree N M) where
 
   size-agree : (X : Depots) → X ⊆ N .listed → size N X ≡ size M X
   unfolding size weigh
-  size-agree X h = sum-cong _ _ 64 (λ d l. when-crews (X d) (N .crews d) (M .crews d) (λ t. a .crews d (h d t)))
+  size-agree X h = sum-cong _ _ 64 (λ d l. when-cong-on (X d) (λ t. a .crews d (h d t)))
 
   exceeds-agree : (G X Y : Depots) → X ⊆ N .listed → Y ⊆ N .listed → exceeds N G X Y ≡ exceeds M G X Y
   unfolding exceeds

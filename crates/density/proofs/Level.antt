@@ -9,18 +9,13 @@ use native.Mathlib.Omega.{arith}
 use lib.Dec.{T, eqb}
 use Rattle.sets.specs.Sum.{when, sum}
 use Rattle.sets.specs.Set.{Depots, _∪_, _⊆_, weigh}
-use Rattle.density.specs.Network.{Network, Valid, touches, within, counts, litres, size}
+use Rattle.density.specs.Network.{Network, Valid, end, touches, within, counts, litres, size}
 use Rattle.density.specs.declared.Site.{Site}
 use Rattle.density.specs.Groups.{Candidate}
 use Rattle.density.specs.Plan.{whole}
 use Rattle.sets.proofs.Test.{or-l, or-r, or-cases, or-swap, and-i, and-l, and-r, and-mono, T?, when-on, when-off, when-zero}
 use Rattle.sets.proofs.Sum.{sum-cong, sum-mono, sum-lt, sum-zero, sum-add, sum-mul, sum-swap, sum-pick, sum-when}
 use Rattle.density.proofs.Sound.{Dense}
-
--- a site's first and second depot
-abbrev pub end : Bool → Site → ℕ
-end true s = s .first
-end false s = s .second
 
 pub sides : (g : Bool → ℕ) (e : Bool) → g true + g false ≡ g e + g (not e)
 sides g true = refl

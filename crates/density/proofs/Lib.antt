@@ -16,3 +16,5 @@ pub mod Agree
 pub mod Examples
 pub mod Split
 pub mod Made
+pub mod Units
+pub mod SharesExist

@@ -1,13 +1,14 @@
 -- The network of a list: it is valid if the depots that it names are in range, and its sizes are numbers of depots. Assumes nothing.
 use mathlib.Core.Path.{_≡_, refl, _∙_, subst}
 use mathlib.Core.Logic.{⊎-elim}
+use mathlib.Core.Bool.{Bool, true, false}
 use Prim.Native.Nat.{ℕ, _<_, _^_}
 use native.Mathlib.Omega.{arith}
 use lib.Count.{ones}
 use lib.Dec.{T, eqb, ltb, eqb→eq, eqb-refl, ltb→lt}
 use lib.ListN.{length}
 use Rattle.sets.specs.Set.{Depots, has, cardinality}
-use Rattle.density.specs.Network.{Listing, siteAt, network, depotsInRange, Valid, size}
+use Rattle.density.specs.Network.{Listing, Network, siteAt, end, network, depotsInRange, Valid, size}
 use Rattle.sets.proofs.Test.{or-l, or-r, or-cases, and-l, and-r}
 use Rattle.sets.proofs.Sum.{all-at, any-at, any-from}
 use Rattle.sets.proofs.Weigh.{cardinality-ones}
@@ -30,6 +31,11 @@ valid l h =
   where
     n : ℕ
     n = length (l .sites)
+
+-- the depots of its sites are below 64
+pub end-small : (N : Network) → Valid N → (e : Bool) (i : ℕ) → i < N .count → end e (N .site i) < 64
+end-small N ok true i l = ok .small _ (ok .first-listed i l)
+end-small N ok false i l = ok .small _ (ok .second-listed i l)
 
 -- the size of a set is the number of its depots, and of a number's set the number of its ones
 pub size-cardinality : (l : Listing) (X : Depots) → size (network l) X ≡ cardinality X 64

@@ -30,7 +30,7 @@ given-tests false true false true w p q = omega arith
 given-tests false true false false w p q = omega arith
 given-tests false false x′ g′ w p q = omega arith
 
-super-tests : (a b a′ b′ : Bool) (w : ℕ)
+pub super-tests : (a b a′ b′ : Bool) (w : ℕ)
     → when (a && a′) w + when (b && b′) w ≤ when ((a || b) && (a′ || b′)) w + when ((a && b) && (a′ && b′)) w
 super-tests true b true b′ w = le-refl (w + when (b && b′) w)
 super-tests true true false b′ w = omega arith

@@ -9,7 +9,7 @@ use native.Mathlib.Omega.{arith}
 use lib.Dec.{T, not-T, eqb, ltb, eqb→eq, ltb→lt, nltb→le}
 use Rattle.sets.specs.Set.{Depots, _∪_, _∩_, _⊆_, Apart}
 use Rattle.density.specs.Network.{Network, Valid, litres, size}
-use Rattle.density.specs.Groups.{Candidate, exceeds, Next}
+use Rattle.density.specs.Groups.{Candidate, exceeds, Next, Densest}
 use Rattle.sets.proofs.Test.{or-l, or-r, or-cases, and-i, and-l, and-r, T?, T-ext, eq→eqb}
 use Rattle.density.proofs.Litres.{size-modular, size-lt, size-pos, some?, litres-empty, litres-super, litres-join}
 
@@ -60,11 +60,6 @@ pub at-most : (N : Network) (G X : Depots) → Next N G X → (Y : Depots) → C
 at-most N G X x Y y = exceeds-not N G Y X (x .most Y y)
 
 -- ---- densest sets
-
--- X is a candidate, and none has more litres per depot
-pub record Densest (N : Network) (G X : Depots) : Type 0 where
-  pub candidate : Candidate N G X
-  pub no-denser : (Y : Depots) → Candidate N G Y → litres N Y G * size N X ≤ litres N X G * size N Y
 
 pub next-densest : (N : Network) (G X : Depots) → Next N G X → Densest N G X
 next-densest N G X x = record { candidate = x .candidate; no-denser = λ Y y. at-most N G X x Y y .no-denser }

@@ -11,7 +11,7 @@ use lib.ListN.{length}
 use lib.Seq.{take-length}
 use Rattle.sets.specs.Sum.{all}
 use Rattle.sets.specs.Set.{Depots, ∅, _∪_, _⊆_, Apart, Nonempty}
-use Rattle.density.specs.Network.{Network, Valid, touches, within, counts, litres, size}
+use Rattle.density.specs.Network.{Network, Valid, touches, within, counts, litres, size, end}
 use Rattle.density.specs.declared.Site.{Site}
 use Rattle.density.specs.Groups.{Candidate, Next, Decomposition}
 use Rattle.density.specs.Plan.{union, group, before, place, carrier, groupSize, groupLitres, whole, firstShare, secondShare, Rules, shareOf, load, target, Shared}
@@ -19,7 +19,7 @@ use Rattle.sets.proofs.Test.{or-l, or-r, or-cases, and-i, and-l, and-r, T-ext, 
 use Rattle.sets.proofs.Sum.{sum-cong}
 use Rattle.density.proofs.Next.{falls}
 use Rattle.density.proofs.Sound.{Below, below-end, below-next, next-of-dense}
-use Rattle.density.proofs.Level.{end, Spread, loadOf, dense}
+use Rattle.density.proofs.Level.{Spread, loadOf, dense}
 use Rattle.density.proofs.Places.{before→, →before, group→, →group, before-suc, follow-from, follow-next, follow-listed}
 
 -- what the first (true) and the second depot of a site have of it

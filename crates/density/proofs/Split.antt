@@ -9,12 +9,12 @@ use native.Mathlib.Omega.{arith}
 use lib.Dec.{T, T-not, not-T}
 use Rattle.sets.specs.Sum.{when, sum}
 use Rattle.sets.specs.Set.{Depots, _∪_, _∖_, _⊆_, Apart, Nonempty, weigh}
-use Rattle.density.specs.Network.{Network, Valid, touches, within, counts, litres, size}
+use Rattle.density.specs.Network.{Network, Valid, touches, within, counts, litres, size, end}
 use Rattle.density.specs.declared.Site.{Site}
 use Rattle.sets.proofs.Test.{or-l, or-r, or-cases, and-i, and-l, and-r, T?, T-ext, when-on, when-off, when-≤}
 use Rattle.sets.proofs.Sum.{sum-mono, sum-lt, sum-mul}
 use Rattle.density.specs.Groups.{Candidate}
-use Rattle.density.proofs.Level.{end, sides, within-end, within-ends, touches-end, touches-cases, Spread, loadOf, loadsOf, sharesAt, loads-by-site, litres-≤-loads, litres-<-loads, counts-mono}
+use Rattle.density.proofs.Level.{sides, within-end, within-ends, touches-end, touches-cases, Spread, loadOf, loadsOf, sharesAt, loads-by-site, litres-≤-loads, litres-<-loads, counts-mono}
 
 -- Depot d has share of a site of S that leads to an earlier depot of S outside A.
 pub record Onward (N : Network) (B S : Depots) (h : Bool → ℕ → ℕ) (A : Depots) (rank : ℕ → ℕ) (d : ℕ) : Type 0 where

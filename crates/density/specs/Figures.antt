@@ -1,4 +1,4 @@
--- Document 01, "Entry points", questions: what "follows from the definition on its list alone".
+-- Document 01, "Entry points" and "The plain book", questions: "w × q, W, q and the difference with its divisor follow from the definition on its list alone".
 use Prim.Native.Nat.{ℕ, _*_}
 use lib.IntN.{ℤ, pos, _-ℤ_}
 use Rattle.density.specs.Network.{Network}

@@ -1,7 +1,7 @@
 -- Document 01, "Depots, sites, groups": the groups, which are the locally-dense decomposition of the graph.
-use mathlib.Core.Bool.{Bool, cond, not, _&&_, _||_}
+use mathlib.Core.Bool.{Bool, cond, _&&_, _||_}
 use mathlib.Core.List.{List, [], _∷_}
-use Prim.Native.Nat.{ℕ, zero, suc, _*_, _^_}
+use Prim.Native.Nat.{ℕ, zero, suc, _*_, _^_, _≤_}
 use lib.Dec.{T, eqb, ltb}
 use Rattle.sets.specs.Set.{Depots, ∅, _∪_, _∖_, _⊆_, Apart, Nonempty, has, isEmpty}
 use Rattle.density.specs.Network.{Network, litres, size}
@@ -23,6 +23,11 @@ exceeds N G X Y =
 pub record Next (N : Network) (G X : Depots) : Type 0 where
   pub candidate : Candidate N G X
   pub most : (Y : Depots) → Candidate N G Y → T (exceeds N G Y X) → ⊥
+
+-- "Of several such sets it is the largest": X is such a set, a candidate than which none has more litres per depot.
+pub record Densest (N : Network) (G X : Depots) : Type 0 where
+  pub candidate : Candidate N G X
+  pub no-denser : (Y : Depots) → Candidate N G Y → litres N Y G * size N X ≤ litres N X G * size N Y
 
 -- "Groups follow until every listed depot is in one." A group is the number of its set.
 unfoldable pub Follow : Network → Depots → List ℕ → Type 0
@@ -46,6 +51,6 @@ unfoldable pub groupsFrom : Network → ℕ → Depots → ℕ → List ℕ
 groupsFrom N k G zero = []
 groupsFrom N k G (suc n) = cond (isEmpty (N .listed ∖ G) 64) [] (nextGroup N k G ∷ groupsFrom N k (G ∪ has (nextGroup N k G)) n)
 
--- the groups of the network; there are no more of them than crews
+-- the groups of the network; there are no more of them than the size of the listed depots
 unfoldable pub groupsOf : Network → List ℕ
 groupsOf N = groupsFrom N 64 ∅ (size N (N .listed))

@@ -1,5 +1,6 @@
 -- Document 01, "Depots, sites, groups": lists, the graph of a list, and the litres and the size of a set of depots.
-use mathlib.Core.Bool.{Bool, _&&_, _||_}
+use mathlib.Core.Path.{_≡_}
+use mathlib.Core.Bool.{Bool, true, false, _&&_, _||_}
 use mathlib.Core.List.{List}
 use Prim.Native.Nat.{ℕ, _<_}
 use lib.Dec.{T, eqb, ltb}
@@ -12,7 +13,9 @@ use Rattle.density.specs.declared.Site.{Site}
 pub record Listing : Type 0 where
   pub sites : List Site
 
--- The graph: its vertices are the listed depots, its edges the sites. Each depot has crews, here one.
+-- The graph: its vertices are the listed depots, its edges the sites. Each depot has crews: the size of a set is its crews added up, and a depot is to have W
+-- for each of its crews. Document 01 has one crew at each depot, so that a size is the number of depots and q is at most 64. Sizes, targets and bounds are over
+-- crews, up to 9 at a depot and so q up to 9 × 64 = 576, as a later request needs.
 pub record Network : Type 0 where
   pub count : ℕ
   pub site : ℕ → Site
@@ -29,7 +32,12 @@ siteAt l i = getD (l .sites) i noSite
 abbrev pub names : Site → Depots
 names s d = eqb (s .first) d || eqb (s .second) d
 
--- "A depot is listed if some site names it."
+-- a site's first and second depot
+abbrev pub end : Bool → Site → ℕ
+end true s = s .first
+end false s = s .second
+
+-- "A depot is listed if some site names it"
 unfoldable pub network : Listing → Network
 network l =
     record {
@@ -64,6 +72,13 @@ counts X G s = within (X ∪ G) s && touches X s
 unfoldable pub litres : Network → Depots → Depots → ℕ
 litres N X G = sum (λ i. when (counts X G (N .site i)) (N .site i .litres)) (N .count)
 
--- The size of a set: its crews added up, which with one crew each is the number of its depots.
+-- The size of a set: its crews added up.
 unfoldable pub size : Network → Depots → ℕ
 size N X = weigh (N .crews) X 64
+
+-- two networks have the same sites, the same listed depots and the same crews of these
+pub record Agree (N M : Network) : Type 0 where
+  pub count : N .count ≡ M .count
+  pub site : (i : ℕ) → N .site i ≡ M .site i
+  pub listed : N .listed ≡ M .listed
+  pub crews : (d : ℕ) → T (N .listed d) → N .crews d ≡ M .crews d

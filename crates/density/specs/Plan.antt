@@ -60,7 +60,7 @@ pub record Rules (N : Network) (gs ss : List ℕ) (i : ℕ) : Type 0 where
 unfoldable pub shareOf : Network → List ℕ → List ℕ → ℕ → ℕ → ℕ
 shareOf N gs ss d i = when (eqb (N .site i .first) d) (firstShare ss i) + when (eqb (N .site i .second) d) (secondShare N gs ss i)
 
--- "the shares it has from sites carried by its own group", and what they are to add up to: W, for each of its crews
+-- "the shares it has from sites carried by its own group", and what they are to add up to: W, for each of its crews (`Network`)
 unfoldable pub load : Network → List ℕ → List ℕ → ℕ → ℕ
 load N gs ss d = sum (λ i. when (eqb (carrier gs (N .site i)) (place gs d)) (shareOf N gs ss d i)) (N .count)
 
@@ -77,7 +77,7 @@ pub record Formed (N : Network) (gs ss : List ℕ) : Type 0 where
   pub sets : (k : ℕ) → k < length gs → getD gs k 0 < 2 ^ 64
   pub each : length ss ≡ N .count
 
--- "A plan is true of a list if it is laid out for it, its groups are those of the definition, over every set and in that order, and its
+-- "A plan is true of a list if it is laid out for it .., its groups are those of the definition, over every set and in that order, and its
 -- shares keep the rules for shares and are level."
 pub record TruePlan (N : Network) (gs ss : List ℕ) : Type 0 where
   pub form : Formed N gs ss

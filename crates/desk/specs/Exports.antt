@@ -2,7 +2,9 @@
 use Prim.Native.Nat.{ℕ}
 use mathlib.Core.List.{List, [], _∷_}
 use mathlib.Core.Path.{_≡_}
-use lib.IntN.{ℤ}
+use lib.IntN.{ℤ, pos}
+use Rattle.edition1.specs.declared.Request1.the-variants.{Share, Depot, Difference}
+use Rattle.edition1.specs.Edition1.{callOf1}
 use Rattle.store.specs.Calls.{Call, Reply}
 use Rattle.codes.specs.Codes.{doneCode, lengthCode, firstOf, secondOf, differenceOf, Did, Figures, Differs, WroteOut}
 
@@ -39,3 +41,16 @@ pub data Calls : List ℕ → List ℕ → List Call → List Given → List ℕ
   none : {s t : List ℕ} → Calls s t [] [] s t
   next : {s t s₁ t₁ s' t' : List ℕ} {c : Call} {cs : List Call} {g : Given} {gs : List Given}
       → Exported s t c g s₁ t₁ → Calls s₁ t₁ cs gs s' t' → Calls s t (c ∷ cs) (g ∷ gs) s' t'
+
+-- "Two desks hold the same list if their books' lists are equal": each W, q, w × q and difference that the same question then gets of both,
+-- with the code 0, is the same; s is that of each one's plan.
+pub record SameGiven (s₁ t₁ s₂ t₂ : List ℕ) : Type 0 where
+  pub site : (i : ℕ) (x₁ y₁ x₁' y₁' x₂ y₂ x₂' y₂' : ℕ) (s₁' t₁' s₂' t₂' : List ℕ)
+      → Exported s₁ t₁ (callOf1 (Share i) [] []) (figures (pos 0) x₁ y₁ x₁' y₁') s₁' t₁'
+      → Exported s₂ t₂ (callOf1 (Share i) [] []) (figures (pos 0) x₂ y₂ x₂' y₂') s₂' t₂' → y₁' ≡ y₂'
+  pub depot : (d : ℕ) (x₁ y₁ x₁' y₁' x₂ y₂ x₂' y₂' : ℕ) (s₁' t₁' s₂' t₂' : List ℕ)
+      → Exported s₁ t₁ (callOf1 (Depot d) [] []) (figures (pos 0) x₁ y₁ x₁' y₁') s₁' t₁'
+      → Exported s₂ t₂ (callOf1 (Depot d) [] []) (figures (pos 0) x₂ y₂ x₂' y₂') s₂' t₂' → (x₁' ≡ x₂') × (y₁' ≡ y₂')
+  pub differences : (a b : ℕ) (x₁ : ℤ) (y₁ : ℕ) (x₁' : ℤ) (y₁' : ℕ) (x₂ : ℤ) (y₂ : ℕ) (x₂' : ℤ) (y₂' : ℕ) (s₁' t₁' s₂' t₂' : List ℕ)
+      → Exported s₁ t₁ (callOf1 (Difference a b) [] []) (differs (pos 0) x₁ y₁ x₁' y₁') s₁' t₁'
+      → Exported s₂ t₂ (callOf1 (Difference a b) [] []) (differs (pos 0) x₂ y₂ x₂' y₂') s₂' t₂' → (x₁' ≡ x₂') × (y₁' ≡ y₂')

@@ -2,10 +2,11 @@
 use mathlib.Core.Path.{_≡_, sym, ap, ap₂, subst, _∙_}
 use mathlib.Core.Logic.{⊎-elim}
 use mathlib.Core.List.{List, [], _∷_, map}
-use Prim.Native.Nat.{ℕ, zero, suc, _<_, _≤_, _^_, min}
+use Prim.Native.Nat.{ℕ, zero, suc, _+_, _<_, _≤_, _^_}
 use native.Mathlib.Omega.{arith}
 use lib.Dec.{ltb, ltb→lt, nltb→le, not-T, lit<}
 use lib.ListN.{length, getD, take, length-map, List·getD-eq-default, replicate, length-replicate}
+use lib.Seq.{getD-take}
 use mir.Val.{Val}
 use denote.Builtin.{u32}
 use denote.Array.{Array, each}
@@ -18,9 +19,8 @@ use Rattle.records.specs.declared.Edition.{Edition}
 use Rattle.records.specs.Bytes.{Bytes}
 use Rattle.records.specs.Format.{edition1}
 use Rattle.table.specs.declared.Site1.{Site1}
-use Rattle.table.specs.Table.{blank, heldOf}
-use Rattle.table.specs.Widths.{noSite1, widened, LitresFit}
-use Rattle.table.proofs.Overlay.{overlay-all, overlay-at, held-length, map-held}
+use Rattle.table.specs.Widths.{widened, LitresFit}
+use Rattle.table.proofs.Overlay.{overlay-all, map-take}
 use Rattle.table.proofs.Widths.{fit-at}
 use Rattle.table.proofs.Copies.{Copied, copied-begins, copied-ends, widened-over, stored-fits}
 use Rattle.held_state.specs.declared.Store.{Store}
@@ -33,6 +33,7 @@ use Rattle.store.specs.Calls.{told}
 use Rattle.held_state.specs.Held.{on}
 use Rattle.store.specs.State.{Done}
 use Rattle.serve.specs.Serve.{Served}
+use Rattle.serve.proofs.FirstPlaces.{same-front, front-there}
 use Rattle.edition1.specs.Edition1.{storeOf1, view1, requestOf1, callOf1, Served1}
 use Rattle.edition1.proofs.Edition1Fits.{Fits, Named, named, step-fits}
 
@@ -57,15 +58,17 @@ module _ {P : Type 0} {n : ℕ} {l : List ℕ} (long : length l ≡ n) where
   pub all-ends : {a : List ℕ} {i : ℕ} → CopiedAll P n l a i → n ≤ i → P → a ≡ l
   all-ends m h p = copied-ends m h p ∙ overlay-all l (replicate n 0) n (omega arith) (omega (arith, length-replicate {A = ℕ} n 0))
 
--- the litres of the first 512 places of a table are those of what is held of it
-table-fits : (l : List Site) (table : List Site) → l ≡ heldOf noSite table → LitresFit l → (i : ℕ) → i < 512 → getD table i noSite .litres < 2 ^ 16
-table-fits l table e h i m =
+-- the litres of the first 512 places of a table are those of the sites that stand for it
+table-fits : (places : ℕ) (l : List Site) (table : List Site) → places ≡ length table → take places l ≡ take 512 table → LitresFit l
+    → (i : ℕ) → i < 512 → getD table i noSite .litres < 2 ^ 16
+table-fits places l table k e h i m =
     ⊎-elim
     (λ t.
-    let k : i < length table = ltb→lt i (length table) t in
-    subst (λ (s : Site). s .litres < 2 ^ 16)
-    (ap (λ (x : List Site). getD x i noSite) e ∙ overlay-at (min (length table) 512) table (blank noSite) i noSite (omega arith) (omega arith))
-    (fit-at l h i (omega (arith, m, ap length e, held-length noSite table))))
+    let room : i + 1 ≤ places = omega (arith, ltb→lt i (length table) t) in
+    let same : getD l i noSite ≡ getD table i noSite =
+    sym (getD-take (i + 1) l i noSite (omega arith)) ∙ ap (λ (x : List Site). getD x i noSite) (same-front l table places e (i + 1) (omega arith) room)
+    ∙ getD-take (i + 1) table i noSite (omega arith) in
+    subst (λ (s : Site). s .litres < 2 ^ 16) same (fit-at l h i (omega (arith, front-there l table places e (i + 1) k (omega arith) room))))
     (λ n. rw (List·getD-eq-default table noSite (nltb→le i (length table) (not-T (ltb i (length table)) n))) (lit< tt)) (T? (ltb i (length table)))
 
 abbrev done1 : Store → List Site → Decision → List ℕ → Done
@@ -86,11 +89,12 @@ module _ (store : Store1) (sites : List Site1) (places : ℕ) (request : Request
       record {
         few = s .few;
         room = s .room;
-        steps = λ table e f.
+        steps = λ table k e.
             let wide = map widened table in
-            let e′ : map widened sites ≡ heldOf noSite wide = ap (map widened) e ∙ map-held widened noSite1 table in
-            let x = s .steps wide e′ (f ∙ sym (length-map table widened)) in
-            let fits : Fits 512 (view1 store table) = record { litres = table-fits (map widened sites) wide e′ litres; shares = shares } in
+            let k′ : places ≡ length wide = k ∙ sym (length-map table widened) in
+            let e′ : take places (map widened sites) ≡ take 512 wide = sym (map-take widened places sites) ∙ ap (map widened) e ∙ map-take widened 512 table in
+            let x = s .steps wide k′ e′ in
+            let fits : Fits 512 (view1 store table) = record { litres = table-fits places (map widened sites) wide k′ e′ litres; shares = shares } in
             let after = subst (λ (r : Done). Fits 512 (r .after)) (sym x) (step-fits 512 (view1 store table) fits (callOf1 request input buffer) bytes named) in
             ap₂ (λ (a : Store) (t : List Site). done1 a t d last)
             (narrows (after .shares)) (widened-over (d .n) l (d .sites) table (fronts (stored-fits 512 (d .n) (d .sites) wide (s .few) (after .litres))))
@@ -103,11 +107,12 @@ module _ (store : Store1) (sites : List Site1) (places : ℕ) (request : Request
       → (w ≡ storeOf1 store) × ((i : ℕ) → getD (w .shares) i 0 < 2 ^ 32)
       → (a ≡ map widened sites) × LitresFit a
       → (q ≡ requestOf1 request) × (((i v : ℕ) → q ≡ Change i v → v < 2 ^ 16) × ((f s v : ℕ) → q ≡ Add f s v → v < 2 ^ 16))
-      → Bytes input
-      → Served e w a places q input buffer d last
+      → Bytes input × Served e w a places q input buffer d last
       → (((i : ℕ) → getD (d .store .shares) i 0 < 2 ^ 32) → storeOf1 held ≡ d .store)
       → (LitresFit (take (d .n) (d .sites)) → map widened (take (d .n) l) ≡ take (d .n) (d .sites))
-      → Served1 store sites places request input buffer (record { answer = d .answer; store = held; sites = l; n = d .n }) last
-  widened-serves {q = q} {d} {held} {l} e w a (r, n) bytes s narrows fronts =
-      serves1 d held l (rw (e, w .0, a .0, r) at s) bytes (subst LitresFit (a .0) (a .1))
-      (subst (λ (x : Store). (i : ℕ) → getD (x .shares) i 0 < 2 ^ 32) (w .0) (w .1)) (subst (Named (2 ^ 16)) r (named (2 ^ 16) q (n .0) (n .1))) narrows fronts
+      → Bytes input × Served1 store sites places request input buffer (record { answer = d .answer; store = held; sites = l; n = d .n }) last
+  widened-serves {q = q} {d} {held} {l} e w a (r, n) (bytes, s) narrows fronts = (
+    bytes,
+    serves1 d held l (rw (e, w .0, a .0, r) at s) bytes (subst LitresFit (a .0) (a .1))
+        (subst (λ (x : Store). (i : ℕ) → getD (x .shares) i 0 < 2 ^ 32) (w .0) (w .1)) (subst (Named (2 ^ 16)) r (named (2 ^ 16) q (n .0) (n .1))) narrows fronts,
+  )

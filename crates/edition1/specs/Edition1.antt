@@ -3,11 +3,11 @@ use mathlib.Core.Path.{_≡_}
 use mathlib.Core.Bool.{false}
 use mathlib.Core.List.{List, map}
 use Prim.Native.Nat.{ℕ, _≤_}
-use lib.ListN.{length, replicate}
+use lib.ListN.{length, take, replicate}
 use Rattle.records.specs.Format.{edition1}
 use Rattle.table.specs.declared.Site1.{Site1}
-use Rattle.table.specs.Table.{overlay, heldOf}
-use Rattle.table.specs.Widths.{noSite1, widened}
+use Rattle.table.specs.Table.{overlay}
+use Rattle.table.specs.Widths.{widened}
 use Rattle.held_state.specs.declared.Store.{Store}
 use Rattle.edition1.specs.declared.Store1.{Store1}
 use Rattle.store.specs.declared.Request.{Request}
@@ -56,9 +56,10 @@ fresh1 = record { count = 0; held = false; grouped = 0; groups = replicate 64 0;
 abbrev pub turned1 : Out1 → List Site1 → List ℕ → Done
 turned1 r table buffer = record { after = view1 (r .store) table; reply = record { answer = told (r .answer); buffer = buffer } }
 
--- the decision is the step, whatever table the sites were taken from
+-- The decision is the step on every table of that many places whose first 512 places, or all where it has fewer, the sites begin with.
+-- There is such a table for any 512 sites and any number of places (`a-table`).
 pub record Served1 (store : Store1) (sites : List Site1) (places : ℕ) (request : Request1) (input buffer : List ℕ) (r : Decision1) (last : List ℕ) : Type 0 where
-  pub steps : (table : List Site1) → sites ≡ heldOf noSite1 table → places ≡ length table
+  pub steps : (table : List Site1) → places ≡ length table → take places sites ≡ take 512 table
       → turned1 (record { answer = r .answer; store = r .store }) (overlay (r .n) (r .sites) table) last ≡ step (view1 store table) (callOf1 request input buffer)
   pub few : r .n ≤ 512
   pub room : r .n ≤ places

@@ -10,6 +10,7 @@ use table::widen_all;
 ghost use mathlib.Core.Path.{_≡_};
 ghost use Prim.Native.Nat.{ℕ, _<_, _^_};
 ghost use lib.ListN.{getD};
+ghost use Rattle.records.specs.Bytes.{Bytes};
 ghost use Rattle.edition1.specs.Edition1.{storeOf1, requestOf1, fresh1, Served1};
 
 // Edition 1: the store by its widths, a share in 32 bits.
@@ -21,7 +22,7 @@ pub struct Store1 {
     pub shares: [u32; 512],
 }
 
-// "Litres in a change or an added site are a 16-bit figure."
+// "Litres in a change or an added site are a 16-bit figure"
 pub enum Request1 {
     Load,
     Change(usize, u16),
@@ -142,7 +143,7 @@ pub fn serve1(
     input: &[u8],
     buffer: &mut [u8],
 ) -> Decision1
-    ensures { λ r. ⌜ Served1 store sites places request (now (input .entry)) (now (buffer .entry)) r (now (buffer .exit)) ⌝ }
+    ensures { λ r. ⌜ Bytes (now (input .entry)) × Served1 store sites places request (now (input .entry)) (now (buffer .entry)) r (now (buffer .exit)) ⌝ }
 {
     let wide = widen_store(store);
     let all = widen_all(sites);

@@ -75,7 +75,7 @@ fn depots(site: Entry) -> u64 {
     site.first | site.second
 }
 
-// "A depot is listed if some site names it."
+// "A depot is listed if some site names it"
 fn listed(sites: [Entry; 16]) -> u64 {
     let mut set: u64 = 0;
     for i in 0..16 {

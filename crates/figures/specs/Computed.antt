@@ -12,7 +12,8 @@ use Rattle.maker.specs.Planned.{Planned}
 use Rattle.figures.specs.declared.Figures.{Figures}
 use Rattle.figures.specs.declared.Found.{Found}
 
--- the plan is the one made for the list, and the tables hold the place of each depot, and "q that group's size" and "W the litres of all sites it carries" of each group
+-- the plan is the one made for the list, and the tables hold the place of each depot, and q and W of each group: "Let q be that group's size and W the litres of
+-- all sites it carries."
 pub record Computed (x : Figures) : Type 0 where
   pub planned : Planned (x .list) (x .plan)
   pub ready : Ready (x .list) (x .plan)

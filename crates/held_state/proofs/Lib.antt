@@ -1,3 +1,4 @@
 pub mod Intact
 pub mod Zero
 pub mod Figures
+pub mod Examples

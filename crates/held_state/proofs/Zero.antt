@@ -1,8 +1,7 @@
 -- Row 0, test by test, on the values. Assumes nothing.
 use mathlib.Core.Path.{_≡_, refl, sym, ap, _∙_}
-use mathlib.Core.Bool.{Bool, true, false, cond, _&&_, _||_}
-use mathlib.Core.List.{List}
-use mathlib.Core.Option.{none, some}
+use mathlib.Core.Bool.{Bool, true, false, _&&_, _||_}
+use mathlib.Core.List.{List, [], _∷_}
 use Prim.Native.Nat.{ℕ, _≤_, _<_}
 use native.Mathlib.Omega.{arith}
 use borrow.Author.Tests.{lt-ltb, le-ltb}
@@ -13,10 +12,11 @@ use Rattle.sets.specs.Sum.{any}
 use Rattle.sets.proofs.Test.{fails}
 use Rattle.sets.proofs.Sum.{any-from, any-cong}
 use Rattle.density.specs.declared.Site.{Site}
-use Rattle.density.specs.Network.{Network, noSite, siteAt}
-use Rattle.density.specs.Rows.{firstRow, planRows, groupsMeet, groupsUnlisted, sharesBroken}
+use Rattle.density.specs.Network.{Listing, network, noSite, siteAt}
+use Rattle.density.specs.Rows.{Row, row, firstRow, planRows}
 use Rattle.records.specs.declared.Edition.{Edition}
 use Rattle.records.specs.declared.PlanArray.{PlanArray}
+use Rattle.records.specs.Values.{Plan}
 use Rattle.tables.specs.declared.Verdict.the-variants.{Passes, Refused}
 use Rattle.tables.specs.Verdict.{verdict}
 use Rattle.tables.specs.Tables.{Counted}
@@ -26,26 +26,40 @@ use Rattle.held_state.proofs.Intact.{listing, good-range}
 
 -- ---- a verdict on the form
 
-one : (a b c : Bool) (n : ℕ) → verdict (cond a (some 12) (cond b (some 13) (cond c (some 14) none))) ≡ Refused n → (a || b || c) ≡ true
-one true b c n e = refl
-one false true c n e = refl
-one false false true n e = refl
-one false false false n e = absurd (let z : _≡_ {A = ℕ} 0 1 = cc in omega arith)
+-- whether a test, or one of the rows, applies
+unfoldable applies : Bool → List Row → Bool
+applies x [] = x
+applies x (row n b ∷ rows) = applies (x || b) rows
 
-nothing : (a b c : Bool) → verdict (cond a (some 12) (cond b (some 13) (cond c (some 14) none))) ≡ Passes → (a || b || c) ≡ false
-nothing true b c e = absurd (let z : _≡_ {A = ℕ} 0 1 = cc in omega arith)
-nothing false true c e = absurd (let z : _≡_ {A = ℕ} 0 1 = cc in omega arith)
-nothing false false true e = absurd (let z : _≡_ {A = ℕ} 0 1 = cc in omega arith)
-nothing false false false e = refl
+one-applies : (rows : List Row) → applies true rows ≡ true
+unfolding applies
+one-applies [] = refl
+one-applies (row n b ∷ rows) = one-applies rows
 
-module _ (N : Network) (gs ss : List ℕ) where
-  pub form-bad : (n : ℕ) → verdict (firstRow (take 3 (planRows N gs ss))) ≡ Refused n → (groupsMeet gs || groupsUnlisted N gs || sharesBroken N gs ss) ≡ true
-  unfolding firstRow planRows
-  form-bad n e = one (groupsMeet gs) (groupsUnlisted N gs) (sharesBroken N gs ss) n e
+refused-applies : (rows : List Row) (n : ℕ) → verdict (firstRow rows) ≡ Refused n → applies false rows ≡ true
+unfolding firstRow applies
+refused-applies [] n e = absurd (let z : _≡_ {A = ℕ} 0 1 = cc in omega arith)
+refused-applies (row k true ∷ rows) n e = one-applies rows
+refused-applies (row k false ∷ rows) n e = refused-applies rows n e
 
-  pub form-good : verdict (firstRow (take 3 (planRows N gs ss))) ≡ Passes → (groupsMeet gs || groupsUnlisted N gs || sharesBroken N gs ss) ≡ false
-  unfolding firstRow planRows
-  form-good e = nothing (groupsMeet gs) (groupsUnlisted N gs) (sharesBroken N gs ss) e
+passes-applies : (rows : List Row) → verdict (firstRow rows) ≡ Passes → applies false rows ≡ false
+unfolding firstRow applies
+passes-applies [] e = refl
+passes-applies (row k true ∷ rows) e = absurd (let z : _≡_ {A = ℕ} 0 1 = cc in omega arith)
+passes-applies (row k false ∷ rows) e = passes-applies rows e
+
+module _ (l : Listing) (p : Plan) where
+  -- rows 12 to 14
+  abbrev formRows : List Row
+  formRows = take 3 (planRows (network l) (p .groups) (p .shares))
+
+  pub form-bad : (n : ℕ) → verdict (firstRow formRows) ≡ Refused n → badPlan l p ≡ true
+  unfolding applies planRows
+  form-bad n e = refused-applies formRows n e
+
+  pub form-good : verdict (firstRow formRows) ≡ Passes → badPlan l p ≡ false
+  unfolding applies planRows
+  form-good e = passes-applies formRows e
 
 -- ---- the tests
 

@@ -6,7 +6,7 @@ use records::scan;
 use tables::Verdict;
 ghost use mathlib.Core.Path.{_≡_};
 ghost use mathlib.Core.Bool.{_&&_, _||_};
-ghost use Prim.Native.Nat.{ℕ, _*_, _^_, _<_, _≤_};
+ghost use Prim.Native.Nat.{_*_, _^_, _<_, _≤_};
 ghost use lib.Dec.{T, ltb};
 ghost use lib.IntN.{pos, _-ℤ_};
 ghost use lib.ListN.{getD, take};
@@ -140,7 +140,7 @@ pub fn litres_at(list: ListArray, plan: PlanArray, d: u8) -> u64
     w[at[d as usize] as usize]
 }
 
-// q of a depot's group.
+// q of a depot's group, up to 576 over crews (`Parts` in `tables/specs`).
 pub fn size_at(list: ListArray, plan: PlanArray, d: u8) -> u64
     requires { ⌜ Ready list plan × T (net list .listed d) ⌝ }
     ensures { λ r. ⌜ (r ≡ groupSize (net list) (groupsIn list plan) (place (groupsIn list plan) d)) × (r ≤ 576) ⌝ }

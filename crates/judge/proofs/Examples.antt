@@ -1,6 +1,6 @@
 -- The starred lists as bytes: Check passes each list's plan; the examples of rows 1 to 16 as bytes: Check gives the row. Assumes nothing.
 use mathlib.Core.Path.{_≡_, refl}
-use mathlib.Core.List.{List, [], _∷_, flatMap}
+use mathlib.Core.List.{[], _∷_, flatMap}
 use mathlib.Core.Option.{none, some}
 use Prim.Native.Nat.{ℕ, _+_, _<_}
 use lib.Dec.{T}
@@ -11,46 +11,36 @@ use Rattle.sets.proofs.Sum.{all-at}
 use Rattle.density.specs.Network.{network, size}
 use Rattle.density.specs.Plan.{union, place, carrier, groupSize, groupLitres, whole, firstShare, secondShare, shareOf, target}
 use Rattle.density.specs.Rows.{firstRow, groupsMeet, groupsUnlisted, shareBroken, sharesBroken, scaledLoad, loadsUneven, groupsRise, planRows}
-use Rattle.density.specs.Examples.{Example, noSites, starred}
+use Rattle.density.specs.Examples.{noSites, starred}
 use Rattle.density.proofs.Cases.{isNone, hasRow}
 use Rattle.density.proofs.Examples.{isNone→, hasRow→}
 use Rattle.records.specs.Bytes.{le, value}
 use Rattle.records.specs.Record.{records}
 use Rattle.records.specs.Format.{edition1, readList, readPlan}
 use Rattle.records.specs.Write.{listBytes, planBytes}
+use Rattle.records.specs.Samples.{listT, planT}
 use Rattle.judge.specs.Check.{checkRow}
-use Rattle.judge.specs.Refusals.{given, listT, refusals}
+use Rattle.judge.specs.Examples.{exampleList, examplePlan}
+use Rattle.judge.specs.Refusals.{given, refusals}
 
--- an example's list and plan as bytes
-abbrev pub listOf : Example → List ℕ
-listOf e = listBytes edition1 (e .list)
-
-abbrev pub planOf : Example → List ℕ
-planOf e = planBytes edition1 (record { groups = e .groups; shares = e .shares })
-
-computed : T (all (λ k. isNone (checkRow edition1 (listOf (getD starred k noSites)) (planOf (getD starred k noSites)))) (length starred))
+computed : T (all (λ k. isNone (checkRow edition1 (exampleList (getD starred k noSites)) (examplePlan (getD starred k noSites)))) (length starred))
 unfolding isNone starred checkRow readList readPlan listBytes planBytes flatMap le value records sum all any has weigh size network firstRow planRows groupsMeet groupsUnlisted sharesBroken shareBroken loadsUneven scaledLoad shareOf target groupsRise place union carrier groupSize groupLitres whole firstShare secondShare
 computed = tt
 
 -- each starred list's plan passes
-pub starred-passes : (k : ℕ) → k < length starred → checkRow edition1 (listOf (getD starred k noSites)) (planOf (getD starred k noSites)) ≡ none
-starred-passes k l = isNone→ _ (all-at (λ k. isNone (checkRow edition1 (listOf (getD starred k noSites)) (planOf (getD starred k noSites)))) (length starred) computed k l)
+pub starred-passes : (k : ℕ) → k < length starred → checkRow edition1 (exampleList (getD starred k noSites)) (examplePlan (getD starred k noSites)) ≡ none
+starred-passes k l = isNone→ _ (all-at (λ k. isNone (checkRow edition1 (exampleList (getD starred k noSites)) (examplePlan (getD starred k noSites)))) (length starred) computed k l)
 
 -- "No sites: no groups; plan 50 4C 00 00 00 passes."
 pub no-sites-passes : checkRow edition1 (0x4C ∷ 0x53 ∷ 0 ∷ 0 ∷ []) (0x50 ∷ 0x4C ∷ 0 ∷ 0 ∷ 0 ∷ []) ≡ none
 unfolding checkRow readList readPlan value records sum all any has weigh size network firstRow planRows groupsMeet groupsUnlisted sharesBroken shareBroken loadsUneven scaledLoad shareOf target groupsRise place union carrier groupSize groupLitres whole firstShare secondShare
 no-sites-passes = refl
 
--- "Its plan is 50 4C 01 01 00 47 52 03 00 00 00 00 00 00 00 53 48 0A 00 00 00."
-abbrev pub planT : List ℕ
-planT =
-    0x50 ∷ 0x4C ∷ 1 ∷ 1 ∷ 0 ∷ 0x47 ∷ 0x52 ∷ 3 ∷ 0 ∷ 0 ∷ 0 ∷ 0 ∷ 0 ∷ 0 ∷ 0 ∷ 0x53 ∷ 0x48 ∷ 0x0A ∷ 0 ∷ 0 ∷ 0 ∷ []
-
 pub T-passes : checkRow edition1 listT planT ≡ none
 unfolding checkRow readList readPlan value records sum all any has weigh size network firstRow planRows groupsMeet groupsUnlisted sharesBroken shareBroken loadsUneven scaledLoad shareOf target groupsRise place union carrier groupSize groupLitres whole firstShare secondShare
 T-passes = refl
 
-pub T-is : (listOf (getD starred 1 noSites) ≡ listT) × (planOf (getD starred 1 noSites) ≡ planT)
+pub T-is : (exampleList (getD starred 1 noSites) ≡ listT) × (examplePlan (getD starred 1 noSites) ≡ planT)
 unfolding starred listBytes planBytes flatMap le
 T-is = (refl, refl)
 

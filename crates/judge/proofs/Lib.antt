@@ -1,3 +1,4 @@
 pub mod Judged
 pub mod Truth
 pub mod Examples
+pub mod Contracts

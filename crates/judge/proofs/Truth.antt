@@ -16,15 +16,11 @@ use Rattle.records.specs.Bytes.{Bytes}
 use Rattle.records.specs.Values.{Plan}
 use Rattle.records.specs.Outcome.{Outcome, refused, passed, gate, bind}
 use Rattle.records.specs.Format.{edition1, readList, readPlan}
-use Rattle.records.specs.Write.{LaidOut}
-use Rattle.records.proofs.RoundTrip.{Marked, list-few, list-depots, laid-read, read-laid}
+use Rattle.records.specs.Write.{LaidOut, Marked}
+use Rattle.records.proofs.RoundTrip.{list-few, list-depots, laid-read, read-laid}
 use Rattle.records.proofs.Samples.{marked1}
-use Rattle.judge.specs.Check.{refusal, checkRow, True}
+use Rattle.judge.specs.Check.{refusal, checkRow, TrueOf}
 use Rattle.judge.proofs.Judged.{refusal-settle}
-
--- a list that reads, and a plan that is true of it
-abbrev pub TrueOf : Edition → List ℕ → List ℕ → Type 0
-TrueOf e list plan = (l : Listing) × (p : Plan) × (readList e 512 list ≡ passed l) × True e l p plan
 
 formed : (e : Edition) (l : Listing) (p : Plan) (s : List ℕ) → LaidOut e l p s → Formed (network l) (p .groups) (p .shares)
 unfolding network

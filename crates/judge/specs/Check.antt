@@ -1,4 +1,5 @@
 -- Document 01, "Entry points": Check, and when a plan is true of a list, as bytes.
+use mathlib.Core.Path.{_≡_}
 use mathlib.Core.Option.{Option, none, some}
 use mathlib.Core.List.{List}
 use Prim.Native.Nat.{ℕ}
@@ -8,14 +9,10 @@ use Rattle.density.specs.Groups.{Decomposition}
 use Rattle.density.specs.Plan.{Shared}
 use Rattle.density.specs.Rows.{planRows}
 use Rattle.records.specs.declared.Edition.{Edition}
-use Rattle.records.specs.declared.Read.{Read}
-use Rattle.records.specs.declared.Read.the-variants as of
 use Rattle.records.specs.Values.{Plan}
 use Rattle.records.specs.Outcome.{Outcome, refused, passed, gate, bind}
 use Rattle.records.specs.Format.{readList, readPlan}
 use Rattle.records.specs.Write.{LaidOut}
-use Rattle.tables.specs.declared.Verdict.{Verdict}
-use Rattle.tables.specs.declared.Verdict.the-variants.{Passes, Refused}
 
 -- "Check: a list and a plan; passes or refuses. When the list is refused, the plan is not read": rows 1 to 6 of the list, then rows 7 to 16 of the
 -- plan for it
@@ -40,7 +37,6 @@ pub record True (e : Edition) (l : Listing) (p : Plan) (bytes : List ℕ) : Type
   pub groups : Decomposition (network l) (p .groups)
   pub shares : Shared (network l) (p .groups) (p .shares)
 
--- a reader's refusal, handed on
-abbrev pub handedOn : Read → Verdict
-handedOn (of.Refused n) = Refused n
-handedOn (of.Count n) = Passes
+-- a list that reads, and a plan that is true of it
+abbrev pub TrueOf : Edition → List ℕ → List ℕ → Type 0
+TrueOf e list plan = (l : Listing) × (p : Plan) × (readList e 512 list ≡ passed l) × True e l p plan

@@ -1,6 +1,7 @@
 -- Document 01, "When the gate stays shut": the examples of rows 1 to 16, as bytes.
 use mathlib.Core.List.{List, [], _∷_}
 use Prim.Native.Nat.{ℕ}
+use Rattle.records.specs.Samples.{listT}
 
 -- what Check is given
 pub record Given : Type 0 where
@@ -10,7 +11,7 @@ pub record Given : Type 0 where
 abbrev pub given : List ℕ → List ℕ → Given
 given list plan = record { list = list; plan = plan }
 
--- "4C 53, site count (2)"; "53 54, first depot (1), second depot (1), litres (2)"
+-- "4C 53, site count (2 bytes)"; "53 54, first depot (1), second depot (1), litres (2)"
 abbrev pub head : ℕ → List ℕ → List ℕ
 head n rest = 0x4C ∷ 0x53 ∷ n ∷ 0x00 ∷ rest
 
@@ -26,10 +27,6 @@ group g rest = 0x47 ∷ 0x52 ∷ g ∷ 0x00 ∷ 0x00 ∷ 0x00 ∷ 0x00 ∷ 0x00 
 
 abbrev pub share : ℕ → List ℕ → List ℕ
 share x rest = 0x53 ∷ 0x48 ∷ x ∷ 0x00 ∷ 0x00 ∷ 0x00 ∷ rest
-
--- "T is the list 4C 53 01 00 53 54 00 01 0A 00."
-abbrev pub listT : List ℕ
-listT = 0x4C ∷ 0x53 ∷ 0x01 ∷ 0x00 ∷ 0x53 ∷ 0x54 ∷ 0x00 ∷ 0x01 ∷ 0x0A ∷ 0x00 ∷ []
 
 -- the example of each row, from row 1 on; document 01 gives no shares with those of rows 12 and 13, and s = 10 is used
 unfoldable pub refusals : List Given

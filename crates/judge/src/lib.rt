@@ -6,17 +6,7 @@ ghost use mathlib.Core.Path.{_≡_};
 ghost use Prim.Native.Nat.{_≤_};
 ghost use Rattle.records.specs.Format.{edition1};
 ghost use Rattle.tables.specs.Verdict.{verdict};
-ghost use Rattle.judge.specs.Check.{checkRow, handedOn};
-
-// A reader's refusal, handed on.
-fn handed_on(answer: Read) -> Verdict
-    ensures { λ r. ⌜ r ≡ handedOn answer ⌝ }
-{
-    match answer {
-        Read::Refused(n) => Verdict::Refused(n),
-        Read::Count(_) => Verdict::Passes,
-    }
-}
+ghost use Rattle.judge.specs.Check.{checkRow};
 
 // Check, of an edition.
 pub fn check_by(e: Edition, list: &[u8], plan: &[u8]) -> Verdict
@@ -26,12 +16,12 @@ pub fn check_by(e: Edition, list: &[u8], plan: &[u8]) -> Verdict
     let l = readers::list::read(e, 512, list);
     let listed = l.answer;
     let Read::Count(n) = listed else {
-        return handed_on(listed);
+        return Verdict::Refused(records::row_of(listed));
     };
     let p = readers::plan::read(e, n, plan);
     let laid = p.answer;
     let Read::Count(_) = laid else {
-        return handed_on(laid);
+        return Verdict::Refused(records::row_of(laid));
     };
     let sites = l.list;
     let shares = p.plan;

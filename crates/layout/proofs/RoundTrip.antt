@@ -12,9 +12,9 @@ use lib.Seq.{drop-at, take-all, drop-drop, length-take-le}
 use Rattle.density.specs.declared.Site.{Site}
 use Rattle.records.specs.Bytes.{Bytes, le, value, Value, field}
 use Rattle.records.specs.Record.{records}
-use Rattle.records.specs.Write.{place, onto}
+use Rattle.records.specs.Write.{place, onto, All}
 use Rattle.records.proofs.Bytes.{length-le, value-le, value-below, le-value, bytes-drop, field-part}
-use Rattle.records.proofs.Records.{records-at, records-from, length-records, All, all-from}
+use Rattle.records.proofs.Records.{records-at, records-from, length-records, all-from}
 use Rattle.records.proofs.Codec.{field-here, field-last, field-behind, le-field, le-field-last, records-flat, flat-records, flat-records-last, map-back}
 use Rattle.records.proofs.Buffers.{Front, flat-append, length-flat, place-place, run-step}
 use Rattle.table.specs.declared.Site1.{Site1}

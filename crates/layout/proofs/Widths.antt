@@ -9,7 +9,7 @@ use denote.Array.{Array, each}
 use denote.Laws.{Is}
 use denote.Shadow.{shadow}
 use denote.Struct.Laws as LL
-use Rattle.records.proofs.Records.{All}
+use Rattle.records.specs.Write.{All}
 use Rattle.table.specs.declared.Site1.{Site1}
 use Rattle.table.proofs.Site1 as T
 use Rattle.table.proofs.Site1.Laws as T′

@@ -16,7 +16,7 @@ use Rattle.held_state.specs.declared.Store.{Store}
 use Rattle.edition1.specs.declared.Store1.{Store1}
 use Rattle.edition1.specs.Edition1.{storeOf1}
 
--- A store is 2,584 bytes: the number of sites (8), whether a plan is held (8; 0 or 1), the number of groups (8), "its 64 places for groups" (8 each)
+-- A store is 2,584 bytes: the number of sites (8), whether a plan is held (8; 0 or 1), the number of groups (8), its "64 places for groups" (8 each)
 -- and "512 places for shares" (4 each).
 unfoldable pub storeBytes : Store → List ℕ
 storeBytes s =

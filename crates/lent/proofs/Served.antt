@@ -6,11 +6,12 @@ use mathlib.Core.Option.{Option, none, some}
 use mathlib.Core.Path.{_≡_, refl, ap, ap₂, sym, _∙_}
 use native.Mathlib.Omega.{arith}
 use borrow.Author.Tests.{eq-eqb, ne-eqb}
-use lib.ListN.{length}
+use lib.ListN.{length, take}
 use Rattle.records.specs.Bytes.{Bytes}
 use Rattle.table.specs.declared.Site1.{Site1}
 use Rattle.table.specs.Table.{overlay, heldOf}
 use Rattle.table.specs.Widths.{noSite1, widened}
+use Rattle.table.proofs.Overlay.{held-stands}
 use Rattle.edition1.specs.declared.Store1.{Store1}
 use Rattle.store.specs.declared.Request.{Request}
 use Rattle.store.specs.declared.Request.the-variants.{Load, Change, Add, Propose, Share, Depot, Difference, Written}
@@ -82,16 +83,19 @@ module _ (s t : List ℕ) (request : Request1) (input buffer : List ℕ) where
   abbrev asked : Call
   asked = callOf1 request input buffer
 
-  pub unsized : (length s ≡ 2584 → ⊥) → Called s t asked (refused 0) s t buffer
-  unsized h = record { is = rw (unlike s h); long = refl; reads = λ e. absurd (true≢false (sym e ∙ unlike s h)) }
+  pub unsized : (length s ≡ 2584 → ⊥) → Bytes input → Called s t asked (refused 0) s t buffer
+  unsized h bytes = record { is = rw (unlike s h); long = refl; reads = λ e. absurd (true≢false (sym e ∙ unlike s h)); bytes = bytes }
 
   module _ {before : Store1} {sites : List Site1} {d : Decision1} {last : List ℕ} (long : length s ≡ 2584) (e : before ≡ storeIn s)
-      (f : sites ≡ heldOf noSite1 (sitesIn t)) (v : Served1 before sites (length t / 4) request input buffer d last) where
+      (f : sites ≡ heldOf noSite1 (sitesIn t)) (v : Bytes input × Served1 before sites (length t / 4) request input buffer d last) where
     abbrev after : Done
     after = turned1 (record { answer = d .answer; store = d .store }) (overlay (d .n) (d .sites) (sitesIn t)) last
 
     steps : after ≡ step (stateIn s t) asked
-    steps = v .steps (sitesIn t) f (sym (length-sites t)) ∙ ap (λ (x : Store1). step (view1 x (sitesIn t)) asked) e
+    steps =
+        let n = length-sites t in
+        let stands = ap₂ (λ (k : ℕ) (l : List Site1). take k l) (sym n) f ∙ held-stands noSite1 (sitesIn t) in
+        v .1 .steps (sitesIn t) (sym n) stands ∙ ap (λ (x : Store1). step (view1 x (sitesIn t)) asked) e
 
     -- what is laid, by whether the call leaves the desk as it was
     abbrev laidBy : Bool → Lent
@@ -106,18 +110,20 @@ module _ (s t : List ℕ) (request : Request1) (input buffer : List ℕ) where
           is = ap (λ (b : Bool). laidBy b) (sym r) ∙ is-laid;
           long = refl;
           reads = λ k. sym (kept-stays (stateIn s t) asked (ap (λ (x : Done). isKept (x .reply .answer)) (sym steps) ∙ r));
+          bytes = v .0;
         }
 
     pub puts : isKept (told (d .answer)) ≡ false → Bytes t → {s' t' : List ℕ} → PutSites (d .n) (d .sites) t t' → PutStore (d .store) s' → length s' ≡ length s
         → Called s t asked (told (d .answer)) s' t' last
     puts r bytes {s'} {t'} p q kept =
-        let room : 4 * d .n ≤ length t = omega (arith, v .room) in
+        let room : 4 * d .n ≤ length t = omega (arith, v .1 .room) in
         let table : t' ≡ tableOver (map widened (overlay (d .n) (d .sites) (sitesIn t))) t =
-        p .bytes ∙ sym (table-again (d .n) (d .sites) t (omega (arith, v .few, p .many)) room bytes) in
+        p .bytes ∙ sym (table-again (d .n) (d .sites) t (omega (arith, v .1 .few, p .many)) room bytes) in
         record {
           is = ap₂ (λ (x y : List ℕ). lent x y (after .reply)) (q .bytes) table ∙ ap (λ (b : Bool). laidBy b) (sym r) ∙ is-laid;
           long = kept;
           reads = λ k. ap₂ (λ (x : Store1) (y : List Site1). view1 x y) (q .reads) (p .reads) ∙ ap (λ (x : Done). x .after) steps;
+          bytes = v .0;
         }
 
 -- a buffer without bytes stays so

@@ -4,6 +4,7 @@ use mathlib.Core.Bool.{Bool, true, false, cond}
 use mathlib.Core.List.{List}
 use Prim.Native.Nat.{ℕ}
 use lib.ListN.{length}
+use Rattle.records.specs.Bytes.{Bytes}
 use Rattle.store.specs.Calls.{Call, Reply, Told, refused, done, shared, loaded, differ, wrote, same}
 use Rattle.held_state.specs.Held.{State}
 use Rattle.store.specs.State.{Done, bare, step}
@@ -41,11 +42,12 @@ laid s t d =
 abbrev pub call : List ℕ → List ℕ → Call → Lent
 call s t c = cond (isSized s) (laid s t (step (stateIn s t) c)) (lent s t (same c (refused 0)))
 
--- What `call` promises: the bytes and the reply are those, the store keeps its length, and the bytes stand for the state after the step.
+-- What `call` promises: the bytes and the reply are those, the store keeps its length, the bytes stand for the state after the step, and the input is bytes.
 pub record Called (s t : List ℕ) (c : Call) (answer : Told) (s' t' buffer : List ℕ) : Type 0 where
   pub is : lent s' t' (record { answer = answer; buffer = buffer }) ≡ call s t c
   pub long : length s' ≡ length s
   pub reads : isSized s ≡ true → stateIn s' t' ≡ step (stateIn s t) c .after
+  pub bytes : Bytes (c .input)
 
 -- "A fresh desk has no sites, no plan, and 512 places for shares, all zero. Its 64 places for groups are zero too."
 pub record Freshened (s : List ℕ) (r : Bool) (s' : List ℕ) : Type 0 where

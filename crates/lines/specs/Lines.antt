@@ -14,7 +14,7 @@ use Rattle.lines.specs.declared.SiteLine.{SiteLine}
 abbrev pub depotLine : Network → ℕ → DepotLine
 depotLine N d = record { depot = d; group = place (groupsOf N) d + 1; litres = depotLitres N d; size = depotSize N d }
 
--- a group's depots, "W the litres of all sites it carries" and "q that group's size"
+-- a group's depots, its W and its q: "Let q be that group's size and W the litres of all sites it carries."
 abbrev pub groupLine : Network → List ℕ → ℕ → GroupLine
 groupLine N gs k = record { depots = getD gs k 0; litres = groupLitres N gs k; size = groupSize N gs k }
 

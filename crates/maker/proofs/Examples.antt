@@ -1,4 +1,4 @@
--- "A maker with one plan for every list": T and an own site get plans that differ. Assumes nothing.
+-- T and an own site get plans that differ: Make is not "a maker with one plan for every list". Assumes nothing.
 use mathlib.Core.Path.{_≡_, refl, sym, ap, _∙_}
 use mathlib.Core.List.{List, [], _∷_}
 use Prim.Native.Nat.{ℕ}
@@ -8,6 +8,7 @@ use lib.ListN.{take}
 use Rattle.sets.specs.Sum.{all, any}
 use Rattle.density.specs.Network.{Listing, network, depotsInRange}
 use Rattle.density.specs.Groups.{groupsOf}
+use Rattle.density.specs.Rows.{firstRow}
 use Rattle.density.specs.Examples.{own, starred}
 use Rattle.density.proofs.Lists.{valid}
 use Rattle.density.proofs.Examples.{starred-known}
@@ -17,19 +18,15 @@ use Rattle.records.specs.Bytes.{value}
 use Rattle.records.specs.Record.{records}
 use Rattle.records.specs.Outcome.{passed}
 use Rattle.records.specs.Format.{edition1, readList, planOf}
-use Rattle.records.proofs.Samples.{T as T-list, bytesT, T-read}
-use Rattle.density.specs.Rows.{firstRow}
+use Rattle.records.specs.Samples.{listT, listOwn}
+use Rattle.records.proofs.Samples.{T as T-list, T-read}
 use Rattle.maker.specs.Make.{Made}
 use Rattle.maker.proofs.Made.{groups-written}
-
--- "Own 0 of 7"
-abbrev listO : List ℕ
-listO = 0x4C ∷ 0x53 ∷ 1 ∷ 0 ∷ 0x53 ∷ 0x54 ∷ 0 ∷ 0 ∷ 0x07 ∷ 0 ∷ []
 
 abbrev sitesO : Listing
 sitesO = record { sites = own 0 7 ∷ [] }
 
-reads-O : readList edition1 512 listO ≡ passed sitesO
+reads-O : readList edition1 512 listOwn ≡ passed sitesO
 unfolding readList firstRow value records any
 reads-O = refl
 
@@ -49,11 +46,11 @@ groups-O : groupsOf (network sitesO) ≡ 1 ∷ []
 unfolding starred
 groups-O = sym (decomposition-is (network sitesO) (valid sitesO in-range-O) (1 ∷ []) (starred-known 2 (lit< tt) .plan .groups))
 
-pub not-one-plan : (out out' last last' : List ℕ) (n n' : ℕ) → Made edition1 (readList edition1 512 bytesT) out (Length n) last
-    → Made edition1 (readList edition1 512 listO) out' (Length n') last' → take n last ≡ take n' last' → ⊥
+pub not-one-plan : (out out' last last' : List ℕ) (n n' : ℕ) → Made edition1 (readList edition1 512 listT) out (Length n) last
+    → Made edition1 (readList edition1 512 listOwn) out' (Length n') last' → take n last ≡ take n' last' → ⊥
 not-one-plan out out' last last' n n' m m' e =
-    let g = groups-written edition1 bytesT out last n T-read m in
-    let g' = groups-written edition1 listO out' last' n' reads-O m' in
+    let g = groups-written edition1 listT out last n T-read m in
+    let g' = groups-written edition1 listOwn out' last' n' reads-O m' in
     let k : _≡_ {A = List ℕ} (3 ∷ []) (1 ∷ []) = sym groups-T ∙ sym g ∙ ap (λ (s : List ℕ). planOf edition1 1 s .groups) e ∙ g' ∙ groups-O in
     let z : _≡_ {A = ℕ} 3 1 = cc in
     omega arith

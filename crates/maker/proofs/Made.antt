@@ -29,14 +29,14 @@ use Rattle.records.specs.Bytes.{Bytes}
 use Rattle.records.specs.Outcome.{Outcome, refused, passed}
 use Rattle.records.specs.Format.{edition1, readList, planOf}
 use Rattle.records.specs.Answer.{listArray, listRead}
-use Rattle.records.specs.Write.{planBytes, onto, Written, LaidOut}
+use Rattle.records.specs.Write.{planBytes, onto, Written, LaidOut, Marked, Good}
 use Rattle.records.proofs.Records.{all-at}
 use Rattle.records.proofs.Buffers.{length-plan}
 use Rattle.records.proofs.Answers.{list-counted, list-refused, listing-array}
-use Rattle.records.proofs.RoundTrip.{Marked, Good, list-good, list-depots, list-few, laid-plan, laid-read}
+use Rattle.records.proofs.RoundTrip.{list-good, list-depots, list-few, laid-plan, laid-read}
 use Rattle.judge.specs.Check.{checkRow}
 use Rattle.maker.specs.Planned.{Planned}
-use Rattle.maker.specs.Make.{PlanWritten, Made}
+use Rattle.maker.specs.Make.{PlanWritten, Made, planLength}
 
 -- the shares of a true plan have the edition's width, where w × q has: w has the width of litres, and q is at most 64
 share-fits : (e : Edition) (l : Listing) (gs ss : List ℕ) → 256 ^ e .litres * 64 ≤ 256 ^ e .share
@@ -92,15 +92,11 @@ module _ (e : Edition) (s : List ℕ) (x : ListRead) (n : ℕ) (is : x ≡ listR
   made p out last r wide b m w = made-from e s p out last r wide b (found .1) (found .2) (subst (λ (y : ListArray). Planned y p) (found .3) m) w
 
 -- the reader's answer, a row: the refusal is handed on, and the buffer is as before
-pub refusal-made : (e : Edition) (s : List ℕ) (x : ListRead) (n : ℕ) (out : List ℕ) (r : Wrote) → x ≡ listRead (readList e 512 s) → x .answer ≡ read.Refused n
-    → r ≡ Refused n → Made e (readList e 512 s) out r out
-refusal-made e s x n out r is row h =
+pub refusal-made : (e : Edition) (s : List ℕ) (x : ListRead) (n : ℕ) (out : List ℕ) → x ≡ listRead (readList e 512 s) → x .answer ≡ read.Refused n
+    → Made e (readList e 512 s) out (Refused n) out
+refusal-made e s x n out is row =
     let k : readList e 512 s ≡ refused n = list-refused (readList e 512 s) (sym row ∙ ap (λ (y : ListRead). y .answer) is) in
-    rw k (h, refl)
-
--- the plan's length, "5 + 10 × groups + 6 × sites"
-abbrev pub planLength : Listing → ℕ
-planLength l = 5 + 10 * length (groupsOf (network l)) + 6 * length (l .sites)
+    rw k (refl, refl)
 
 -- "answers the plan's length", or row 20 where the buffer is shorter
 pub made-answer : (s : List ℕ) {l : Listing} (out last : List ℕ) (r : Wrote) → readList edition1 512 s ≡ passed l → Made edition1 (readList edition1 512 s) out r last

@@ -1,7 +1,7 @@
 -- Document 01, "Entry points": Make.
 use mathlib.Core.Path.{_≡_}
 use mathlib.Core.List.{List}
-use Prim.Native.Nat.{ℕ, _<_, _^_}
+use Prim.Native.Nat.{ℕ, _+_, _*_, _<_, _^_}
 use lib.ListN.{length, getD}
 use Rattle.density.specs.Network.{Listing, network}
 use Rattle.density.specs.Groups.{groupsOf}
@@ -25,3 +25,7 @@ pub record PlanWritten (e : Edition) (l : Listing) (out : List ℕ) (r : Wrote) 
 abbrev pub Made : Edition → Outcome Listing → List ℕ → Wrote → List ℕ → Type 0
 Made e (refused n) out r last = (r ≡ Refused n) × (last ≡ out)
 Made e (passed l) out r last = PlanWritten e l out r last
+
+-- "the plan's length, 5 + 10 × groups + 6 × sites"
+abbrev pub planLength : Listing → ℕ
+planLength l = 5 + 10 * length (groupsOf (network l)) + 6 * length (l .sites)

@@ -1,12 +1,9 @@
 // Make: a plan for a list, on values (`make_plan`) and on bytes (`make`).
-ghost use mathlib.Core.Path.{_≡_};
-ghost use Prim.Native.Nat.{ℕ, _*_, _≤_, _^_};
+ghost use Prim.Native.Nat.{_*_, _≤_, _^_};
 ghost use lib.Dec.{T};
 ghost use Rattle.density.specs.Network.{depotsInRange};
 ghost use Rattle.records.specs.Values.{listing};
 ghost use Rattle.records.specs.Format.{edition1, readList};
-ghost use Rattle.records.specs.declared.Read.the-variants as read;
-ghost use Rattle.records.specs.declared.Wrote.the-variants as wrote;
 ghost use Rattle.maker.specs.Planned.{Planned};
 ghost use Rattle.maker.specs.Make.{Made};
 use records::Edition;
@@ -23,16 +20,6 @@ pub fn make_plan(list: ListArray) -> PlanArray
     decompose::decompose(list)
 }
 
-// Hands a list's refusal on.
-fn hand_on(answer: Read) -> Wrote
-    ensures { λ r. ⌜ ((n : ℕ) → answer ≡ read.Refused n → r ≡ wrote.Refused n) ⌝ }
-{
-    match answer {
-        Read::Refused(row) => Wrote::Refused(row),
-        Read::Count(n) => Wrote::Length(n),
-    }
-}
-
 // Make, over an edition whose shares have room for w × q.
 fn make_by(e: Edition, list: &[u8], out: &mut [u8]) -> Wrote
     requires { ⌜ (e .litres ≤ 4) × (e .share ≤ 8) × (256 ^ e .litres * 64 ≤ 256 ^ e .share) ⌝ }
@@ -41,7 +28,7 @@ fn make_by(e: Edition, list: &[u8], out: &mut [u8]) -> Wrote
     let found = readers::list::read(e, 512, list);
     let answer = found.answer;
     let Read::Count(n) = answer else {
-        return hand_on(answer);
+        return Wrote::Refused(records::row_of(answer));
     };
     let l = found.list;
     let p = make_plan(l);

@@ -1,6 +1,6 @@
 -- What a head says of the whole list or plan. Assumes nothing.
 use Prim.Native.Nat.{ℕ, zero, suc, _+_, _*_, _≤_}
-use mathlib.Core.Bool.{true, false}
+use mathlib.Core.Bool.{Bool, true, false, _||_}
 use mathlib.Core.List.{List, [], _∷_}
 use mathlib.Core.Path.{_≡_, refl, _∙_}
 use native.Mathlib.Omega.{arith}
@@ -85,14 +85,13 @@ plan-head-refused e sites s h = first-refuses 4 (layoutRows e sites s) (groupCou
 
 -- row 11, behind a head that gives a count
 module _ (e : Edition) (sites : ℕ) (s : List ℕ) {n : ℕ} (h : PlanHeaded e sites s n) where
-  pub groups-wrong : anyOf (wrongMark (e .mark .group)) (groupRecords s) ≡ true → readPlan e sites s ≡ refused 11
-  unfolding firstRow
-  groups-wrong g = h .rest ∙ rw g
+  abbrev marks : Bool
+  marks = anyOf (wrongMark (e .mark .group)) (groupRecords s) || anyOf (wrongMark (e .mark .share)) (shareRecords e sites s)
 
-  pub shares-wrong : anyOf (wrongMark (e .mark .group)) (groupRecords s) ≡ false → anyOf (wrongMark (e .mark .share)) (shareRecords e sites s) ≡ true → readPlan e sites s ≡ refused 11
+  pub marks-wrong : marks ≡ true → readPlan e sites s ≡ refused 11
   unfolding firstRow
-  shares-wrong g t = h .rest ∙ rw (g, t)
+  marks-wrong t = h .rest ∙ rw t
 
-  pub none-wrong : anyOf (wrongMark (e .mark .group)) (groupRecords s) ≡ false → anyOf (wrongMark (e .mark .share)) (shareRecords e sites s) ≡ false → readPlan e sites s ≡ passed (planOf e sites s)
+  pub none-wrong : marks ≡ false → readPlan e sites s ≡ passed (planOf e sites s)
   unfolding firstRow
-  none-wrong g t = h .rest ∙ rw (g, t)
+  none-wrong t = h .rest ∙ rw t

@@ -1,42 +1,40 @@
 // The reader of a list.
+use crate::SiteBody;
 use density::Site;
 use records::Edition;
 use records::ListArray;
 use records::ListRead;
 use records::Read;
-use records::SiteRead;
 use records::SitesRead;
 use records::Step;
 use records::scan;
 ghost use mathlib.Core.Path.{_≡_};
-ghost use Prim.Native.Nat.{_≤_, _+_, _*_};
-ghost use lib.ListN.{length, take, drop};
+ghost use Prim.Native.Nat.{ℕ, _<_, _≤_, _+_, _*_, _^_};
+ghost use lib.ListN.{length, getD};
 ghost use Rattle.density.specs.Network.{noSite};
-ghost use Rattle.records.specs.Answer.{siteRead, sitesBy, sitesRead, listRead};
+ghost use Rattle.records.specs.Answer.{sitesRead, listRead};
 ghost use Rattle.records.specs.Outcome.{refused};
 ghost use Rattle.records.specs.Format.{siteSize, readList};
 ghost use Rattle.readers.specs.Head.{listHead};
+ghost use Rattle.readers.specs.Body.{siteBody, siteBodies};
 
-// What the record of a site at a place of `s` says, where a site's mark is m and its litres have `w` bytes.
-pub fn site_at(m: u64, w: usize, s: &[u8], at: usize) -> SiteRead
-    requires { ⌜ (w ≤ 4) × (at + (4 + w) ≤ length (now s)) ⌝ }
-    ensures { λ r. ⌜ r ≡ siteRead m w (take (4 + w) (drop at (now (s .entry)))) ⌝ }
+// A site, from the number that its record's body is.
+fn site_of(body: u64) -> SiteBody
+    requires { ⌜ body < 2 ^ 48 ⌝ }
+    ensures { λ r. ⌜ r ≡ siteBody body ⌝ }
 {
-    let r = scan::record_at(s, at, 2 + w);
-    let first = (r.body % 256) as u8;
-    let second = (r.body / 256 % 256) as u8;
-    let litres = (r.body / 65536) as u32;
+    let first = (body % 256) as u8;
+    let second = (body / 256 % 256) as u8;
+    let litres = (body / 65536) as u32;
     let site = Site {
         first,
         second,
         litres,
     };
-    let mark = r.mark != m;
     let depot = scan::either(63 < first, 63 < second);
     let none = litres == 0;
-    SiteRead {
+    SiteBody {
         site,
-        mark,
         depot,
         litres: none,
     }
@@ -53,27 +51,22 @@ fn no_site() -> Site
     }
 }
 
-// The records of `n` sites behind the head of `s`, each read once.
-fn sites_by(m: u64, w: usize, n: usize, s: &[u8]) -> SitesRead
-    requires { ⌜ (w ≤ 4) × (n ≤ 512) × (4 + (4 + w) * n ≤ length (now s)) ⌝ }
-    ensures { λ r. ⌜ r ≡ sitesBy m w n (now (s .entry)) ⌝ }
+// The sites that the bodies of their records say, beside whether a mark is wrong.
+fn sites_of(bodies: &[u64], marks: bool) -> SitesRead
+    requires { ⌜ (length (now bodies) ≤ 512) × ((i : ℕ) → i < length (now bodies) → getD (now bodies) i 0 < 2 ^ 48) ⌝ }
+    ensures { λ r. ⌜ r ≡ siteBodies (now (bodies .entry)) marks ⌝ }
 {
     let none = no_site();
-    let size = 4 + w;
     let mut sites = [none; 512];
-    let mut marks = false;
     let mut depots = false;
     let mut litres = false;
-    let mut at = 4;
-    let mut i = 0;
-    while i < n {
-        let r = site_at(m, w, s, at);
+    let mut i: usize = 0;
+    while i < bodies.len() {
+        let r = site_of(bodies[i]);
         let x = r.site;
         sites[i] = x;
-        marks = scan::either(marks, r.mark);
         depots = scan::either(depots, r.depot);
         litres = scan::either(litres, r.litres);
-        at += size;
         i += 1;
     }
     SitesRead {
@@ -84,15 +77,24 @@ fn sites_by(m: u64, w: usize, n: usize, s: &[u8]) -> SitesRead
     }
 }
 
-// The same, of an edition. The width of edition 1 is a constant of its call, so that the compiled loop does not ask for it at each record.
+// The records of `n` sites behind the head of `s`, each read once. A list has no groups.
 pub fn sites(e: Edition, n: usize, s: &[u8]) -> SitesRead
     requires { ⌜ (e .litres ≤ 4) × (n ≤ 512) × (4 + siteSize e * n ≤ length (now s)) ⌝ }
     ensures { λ r. ⌜ r ≡ sitesRead e n (now (s .entry)) ⌝ }
 {
-    if e.litres == 2 {
-        return sites_by(e.mark.site, 2, n, s);
-    }
-    sites_by(e.mark.site, e.litres, n, s)
+    let mut none = [0u64; 0];
+    let mut bodies = [0u64; 512];
+    let w = 2 + e.litres;
+    let end = scanner::bodies(
+        s,
+        4,
+        e.mark.group,
+        &mut none,
+        w,
+        e.mark.site,
+        &mut bodies[..n],
+    );
+    sites_of(&bodies[..n], end.wrong)
 }
 
 // A list that row `n` refuses.
@@ -115,7 +117,7 @@ fn head(e: Edition, places: usize, s: &[u8]) -> Read
     requires { ⌜ e .litres ≤ 4 ⌝ }
     ensures { λ r. ⌜ r ≡ listHead e places (now (s .entry)) ⌝ }
 {
-    let Step::Record(mark, count, _) = scan::read_at(s, 0, 2) else {
+    let Step::Record(mark, count, _) = scan::step_at(s, 0, 2) else {
         return Read::Refused(1);
     };
     if mark != e.mark.list {

@@ -10,7 +10,8 @@ use native.Mathlib.Omega.{arith}
 use Rattle.records.specs.Bytes.{Bytes, le, value, field}
 use Rattle.records.specs.Record.{records, anyOf}
 use Rattle.records.proofs.Bytes.{length-le, value-le, le-value, bytes-take, bytes-drop}
-use Rattle.records.proofs.Records.{All, all-map, of-none}
+use Rattle.records.specs.Write.{All}
+use Rattle.records.proofs.Records.{all-map, of-none}
 
 -- ---- one field
 

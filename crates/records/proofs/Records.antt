@@ -2,10 +2,10 @@
 use Prim.Native.Nat.{ℕ, zero, suc, _+_, _*_, _-_, _/_, _%_, _<_, _≤_}
 use mathlib.Core.Bool.{Bool, true, false, cond, _||_}
 use mathlib.Core.List.{List, [], _∷_, _++_, map}
-use mathlib.Core.Path.{_≡_, refl, ap, sym, _∙_}
+use mathlib.Core.Path.{_≡_, refl, ap, _∙_}
 use lib.Dec.{ltb}
-use lib.ListN.{length, take, drop, getD, set, replicate, length-drop, length-replicate, length-map, List·getD-map}
-use lib.Seq.{take-all, take-length, drop-drop, take-suc, take-suc-set, set-at, length-take-le, append-snoc}
+use lib.ListN.{length, take, drop, getD, set, replicate, length-drop, length-replicate}
+use lib.Seq.{take-all, take-length, drop-drop, take-suc, set-at, length-take-le, append-snoc}
 use native.Mathlib.Nat.{add-zero, sub-zero, mul-suc, mul-le-mul-left, not-suc-le-zero, mul-zero, le-of-suc-le-suc}
 use native.Mathlib.Numerals.{add-one}
 use native.Mathlib.Omega.{arith}
@@ -18,6 +18,7 @@ use Rattle.records.specs.Bytes.{Bytes, field}
 use Rattle.records.proofs.Bytes.{field-first, field-part, field-small, bytes-take, bytes-drop}
 use Rattle.records.specs.Answer.{filled}
 use Rattle.records.specs.Record.{records, anyOf, stepAt}
+use Rattle.records.specs.Write.{All}
 use Rattle.records.specs.declared.Step.the-variants.{Record, End}
 
 -- the part `&s[k..]`
@@ -52,26 +53,8 @@ fill-step xs i k z d h l =
     let m : i ≤ length xs = omega arith in
     rw (e, add-one, take-suc xs i d h, set-at (take i xs) z (replicate (k - suc i) z) (getD xs i d) i (length-take-le i xs m), append-snoc)
 
--- the same where the places are filled by a function of each record
-pub fill-next : {A : Type 0} (g : List ℕ → A) (rs : List (List ℕ)) (i k : ℕ) (z : A) {ys : List A} {y : A} → i < length rs → i < k
-    → ys ≡ take i (map g rs) ++ replicate (k - i) z → y ≡ g (getD rs i []) → set ys i y ≡ take (i + 1) (map g rs) ++ replicate (k - (i + 1)) z
-fill-next g rs i k z h l e f =
-    rw (e, f, ← (List·getD-map g rs i [])) (fill-step (map g rs) i k z (g []) (rw length-map h) l)
-
 pub fill-all : {A : Type 0} (xs : List A) (k : ℕ) (z : A) {n : ℕ} {ys : List A} → length xs ≡ n → ys ≡ take n xs ++ replicate (k - n) z → ys ≡ filled k xs z
 fill-all xs k z h e = e ∙ rw (← h, take-length)
-
--- the same of places that all are filled in the end
-pub take-next : {A : Type 0} (g : List ℕ → A) (rs : List (List ℕ)) (i : ℕ) (ys : List A) {y : A} → i < length ys → i < length rs
-    → take i ys ≡ take i (map g rs) → y ≡ g (getD rs i []) → take (i + 1) (set ys i y) ≡ take (i + 1) (map g rs)
-take-next g rs i ys {y = y} h l e f =
-    let k : i < length (map g rs) = rw length-map l in
-    rw (add-one, take-suc-set ys i y h, take-suc (map g rs) i (g []) k, List·getD-map g rs i [], e, f)
-
-pub take-whole : {A : Type 0} (g : List ℕ → A) (rs : List (List ℕ)) {i : ℕ} {ys : List A} → length rs ≡ i → length ys ≡ i
-    → take i ys ≡ take i (map g rs) → ys ≡ map g rs
-take-whole g rs {i = i} {ys = ys} h l e =
-    sym (take-all i ys (omega arith)) ∙ e ∙ take-all i (map g rs) (rw length-map (omega arith))
 
 -- the first n of k zeros, and the others
 abbrev pub zeros : ℕ → List ℕ
@@ -93,10 +76,6 @@ pub any-step : (f : ℕ → Bool) (i : ℕ) → any f (i + 1) ≡ (any f i || f 
 unfolding any
 any-step f i = rw add-one
 
-pub any-none : (f : ℕ → Bool) → any f 0 ≡ false
-unfolding any
-any-none f = refl
-
 -- one record more that is tested, and all of them
 pub test-next : (p : List ℕ → Bool) (rs : List (List ℕ)) (i : ℕ) {b x y : Bool} → b ≡ any (λ j. p (getD rs j [])) i → x ≡ p (getD rs i []) → y ≡ (b || x)
     → y ≡ any (λ j. p (getD rs j [])) (i + 1)
@@ -106,10 +85,6 @@ pub test-all : (p : List ℕ → Bool) (rs : List (List ℕ)) {n : ℕ} {b : Boo
 test-all p rs h e = e ∙ rw h
 
 -- ---- what holds of every element
-
-abbrev pub All : {A : Type 0} → (A → Type 0) → List A → Type 0
-All P [] = Unit {0}
-All P (x ∷ xs) = P x × All P xs
 
 pub all-from : {A : Type 0} (P : A → Type 0) (d : A) (xs : List A) → ((i : ℕ) → i < length xs → P (getD xs i d)) → All P xs
 all-from P d [] h = tt
@@ -139,11 +114,6 @@ of-none p rs a =
     is-false (anyOf p rs) (λ t.
     let w = any-at (λ j. p (getD rs j [])) (length rs) t in
     fails (p (getD rs (w .0) [])) (all-at (λ (r : List ℕ). p r ≡ false) [] rs a (w .0) (w .1)) (w .2))
-
--- a record that is there
-pub step-there : (s : List ℕ) (at w : ℕ) → w ≤ 8 → at + (2 + w) ≤ length s
-    → stepAt s at w ≡ Record (field s at 2) (field s (at + 2) w) (at + (2 + w))
-step-there s at w h l = rw (le-ltb 8 w h, le-ltb (length s) (at + (2 + w)) l)
 
 -- the head of a plan: its body is the group count and the site count
 pub head-groups : (s : List ℕ) → Bytes s → 5 ≤ length s → field s 2 3 % 256 ≡ field s 2 1
@@ -177,9 +147,6 @@ module _ (s : List ℕ) (at w : ℕ) (b : Bytes s) (l : at + (4 + w) ≤ length 
       let e₃ = field-first s (at + 3) w (omega arith) in
       rw (k, field-part s at (4 + w) 2 1 (omega arith), field-part s at (4 + w) 3 1 (omega arith), field-part s at (4 + w) 4 w (omega arith))
       (rw (k₃, e₃, k₄) at e₂)
-
-  pub body-mark : field s at 2 ≡ field rec 0 2
-  body-mark = rw (field-part s at (4 + w) 0 2 (omega arith), add-zero)
 
   pub body-first : body % 256 ≡ field rec 2 1
   body-first = omega (arith, body-parts, field-small rec 2 1 (bytes-take (4 + w) (drop at s) (bytes-drop at s b)))

@@ -1,6 +1,6 @@
 -- A list and a plan that were written are read back, and what was read is written again, byte for byte, over the edition; what passed says. Assumes nothing.
 use Prim.Native.Nat.{ℕ, _+_, _*_, _<_, _≤_, _^_}
-use mathlib.Core.Bool.{false, not, _&&_}
+use mathlib.Core.Bool.{false, _&&_}
 use mathlib.Core.List.{List, _++_, flatMap, map}
 use mathlib.Core.Path.{_≡_, refl, ap, sym, _∙_}
 use borrow.Author.Tests.{lt-ltb, eq-eqb, ne-eqb, le-ltb, eqb-true, ltb-false, eqb-false, not-false}
@@ -15,34 +15,15 @@ use Rattle.sets.proofs.Sum.{all-from as each-from}
 use Rattle.records.specs.declared.Edition.{Edition}
 use Rattle.records.specs.Values.{Plan}
 use Rattle.records.specs.Bytes.{Bytes, le, field}
-use Rattle.records.specs.Record.{records, anyOf, wrongMark}
+use Rattle.records.specs.Record.{anyOf, wrongMark}
 use Rattle.records.specs.Outcome.{passed}
 use Rattle.records.specs.Format.{siteSize, siteCount, siteRecords, sitesOf, siteOf, wrongDepot, noLitres, listRows, readList, groupCount, groupRecords, shareRecords, shareSize, bodyOf, planOf, layoutRows, readPlan}
-use Rattle.records.specs.Write.{siteBytes, listBytes, markBytes, planBytes, LaidOut}
+use Rattle.records.specs.Write.{siteBytes, listBytes, markBytes, planBytes, LaidOut, All, Marked, Allowed, Good, GoodPlan}
 use Rattle.records.proofs.Bytes.{length-le, bytes-drop, field-small}
-use Rattle.records.proofs.Records.{All, all-from, all-at, all-map, all-both, none-of, length-records}
+use Rattle.records.proofs.Records.{all-from, all-at, all-map, all-both, none-of, length-records}
 use Rattle.records.proofs.Buffers.{length-flat, length-mark, length-plan, length-site, length-list}
 use Rattle.records.proofs.Outcomes.{pass, clear, or-false}
 use Rattle.records.proofs.Codec.{field-here, field-last, field-behind, le-field, le-field-last, records-flat, records-flat-last, flat-records, flat-records-last, bytes-records, any-map, map-back}
-
--- the marks have two bytes
-pub record Marked (e : Edition) : Type 0 where
-  pub list : e .mark .list < 65536
-  pub site : e .mark .site < 65536
-  pub plan : e .mark .plan < 65536
-  pub group : e .mark .group < 65536
-  pub share : e .mark .share < 65536
-
--- a site that rows 5 and 6 do not refuse
-pub record Allowed (x : Site) : Type 0 where
-  pub first : x .first ≤ 63
-  pub second : x .second ≤ 63
-  pub some : 0 < x .litres
-
--- and whose litres have the edition's width
-pub record Good (e : Edition) (x : Site) : Type 0 where
-  pub allowed : Allowed x
-  pub fits : x .litres < 256 ^ e .litres
 
 module _ (e : Edition) (m : Marked e) where
   -- the fields of a site's record
@@ -219,13 +200,6 @@ module _ (mark w : ℕ) where
       rw (← k, le-field-last r 2 w b l, le-field r 0 2 b (omega arith))
 
 -- ---- plans
-
--- the numbers of a plan have the widths of their fields
-pub record GoodPlan (e : Edition) (p : Plan) : Type 0 where
-  pub few : length (p .groups) ≤ 64
-  pub sites : length (p .shares) ≤ 512
-  pub groups : All (λ (g : ℕ). g < 256 ^ 8) (p .groups)
-  pub shares : All (λ (s : ℕ). s < 256 ^ e .share) (p .shares)
 
 -- the parts of a plan that was written, whatever its marks
 module _ (e : Edition) (p : Plan) (few : length (p .groups) ≤ 64) where

@@ -1,5 +1,4 @@
 -- The list T of document 01, its plan, and refusals, by computation; the round trips hold at edition 1. Assumes nothing.
-use Prim.Native.Nat.{ℕ}
 use mathlib.Core.List.{List, [], _∷_}
 use mathlib.Core.Path.{_≡_, refl}
 use lib.Dec.{lit<}
@@ -11,37 +10,28 @@ use Rattle.records.specs.Bytes.{le, value}
 use Rattle.records.specs.Record.{records}
 use Rattle.records.specs.Outcome.{refused, passed}
 use Rattle.records.specs.Format.{edition1, readList, readPlan}
-use Rattle.records.specs.Write.{listBytes, planBytes}
-use Rattle.records.proofs.RoundTrip.{Marked}
+use Rattle.records.specs.Samples.{listT, planT}
+use Rattle.records.specs.Write.{listBytes, planBytes, Marked}
 
 abbrev pub T : Listing
 T = record { sites = record { first = 0; second = 1; litres = 10 } ∷ [] }
 
-abbrev pub planT : Plan
-planT = record { groups = 3 ∷ []; shares = 10 ∷ [] }
+abbrev pub planOfT : Plan
+planOfT = record { groups = 3 ∷ []; shares = 10 ∷ [] }
 
-abbrev pub bytesT : List ℕ
-bytesT = 0x4C ∷ 0x53 ∷ 0x01 ∷ 0x00 ∷ 0x53 ∷ 0x54 ∷ 0x00 ∷ 0x01 ∷ 0x0A ∷ 0x00 ∷ []
-
-abbrev pub planBytesT : List ℕ
-planBytesT =
-    0x50 ∷ 0x4C ∷ 0x01 ∷ 0x01 ∷ 0x00
-    ∷ 0x47 ∷ 0x52 ∷ 0x03 ∷ 0x00 ∷ 0x00 ∷ 0x00 ∷ 0x00 ∷ 0x00 ∷ 0x00 ∷ 0x00
-    ∷ 0x53 ∷ 0x48 ∷ 0x0A ∷ 0x00 ∷ 0x00 ∷ 0x00 ∷ []
-
-pub T-read : readList edition1 512 bytesT ≡ passed T
+pub T-read : readList edition1 512 listT ≡ passed T
 unfolding readList firstRow records any value
 T-read = refl
 
-pub T-written : listBytes edition1 T ≡ bytesT
+pub T-written : listBytes edition1 T ≡ listT
 unfolding listBytes le mathlib.Core.List.flatMap
 T-written = refl
 
-pub planT-read : readPlan edition1 1 planBytesT ≡ passed planT
+pub planT-read : readPlan edition1 1 planT ≡ passed planOfT
 unfolding readPlan firstRow records any value
 planT-read = refl
 
-pub planT-written : planBytes edition1 planT ≡ planBytesT
+pub planT-written : planBytes edition1 planOfT ≡ planT
 unfolding planBytes le mathlib.Core.List.flatMap
 planT-written = refl
 

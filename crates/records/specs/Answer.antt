@@ -1,20 +1,25 @@
 -- The readers' answers: the paper's number and the value of each case.
 use Prim.Native.Nat.{ℕ, _+_, _-_}
 use mathlib.Core.List.{List, [], _++_, map}
+use mathlib.Core.Path.{_≡_}
 use lib.ListN.{length, drop, replicate}
 use Rattle.density.specs.Network.{Listing, noSite}
 use Rattle.records.specs.declared.ListArray.{ListArray}
 use Rattle.records.specs.declared.PlanArray.{PlanArray}
 use Rattle.records.specs.declared.ListRead.{ListRead}
 use Rattle.records.specs.declared.PlanRead.{PlanRead}
-use Rattle.records.specs.declared.SiteRead.{SiteRead}
 use Rattle.records.specs.declared.SitesRead.{SitesRead}
 use Rattle.records.specs.declared.Edition.{Edition}
+use Rattle.records.specs.declared.Read.{Read}
 use Rattle.records.specs.declared.Read.the-variants.{Count, Refused}
 use Rattle.records.specs.Values.{Plan}
 use Rattle.records.specs.Record.{records, anyOf, wrongMark}
 use Rattle.records.specs.Format.{siteOf, wrongDepot, noLitres}
 use Rattle.records.specs.Outcome.{Outcome, refused, passed}
+
+-- the answer is a refusal
+abbrev pub Refuses : Read → Type 0
+Refuses r = (n : ℕ) × (r ≡ Refused n)
 
 -- a row of n places: these, and then zeros
 abbrev pub filled : {A : Type 0} → ℕ → List A → A → List A
@@ -27,10 +32,7 @@ listArray l = record { count = length (l .sites); sites = filled 512 (l .sites) 
 abbrev pub planArray : Plan → PlanArray
 planArray p = record { count = length (p .groups); groups = filled 64 (p .groups) 0; shares = filled 512 (p .shares) 0 }
 
--- what one site's record says, and what n of them behind the head say, of a site's mark m and litres of w bytes
-abbrev pub siteRead : ℕ → ℕ → List ℕ → SiteRead
-siteRead m w r = record { site = siteOf w r; mark = wrongMark m r; depot = wrongDepot r; litres = noLitres w r }
-
+-- what n sites' records behind the head say, of a site's mark m and litres of w bytes
 abbrev pub sitesBy : ℕ → ℕ → ℕ → List ℕ → SitesRead
 sitesBy m w n s =
     record {

@@ -39,7 +39,7 @@ siteRecords e s = records (siteSize e) (siteCount s) (drop 4 s)
 abbrev pub sitesOf : Edition → List ℕ → List Site
 sitesOf e s = map (siteOf (e .litres)) (siteRecords e s)
 
--- "a named depot above 63", and "litres 0", of a site's record
+-- "a named depot in a list .. above 63", and "litres 0", of a site's record
 abbrev pub wrongDepot : List ℕ → Bool
 wrongDepot r = ltb 63 (field r 2 1) || ltb 63 (field r 3 1)
 

@@ -5,3 +5,4 @@ pub mod Outcome
 pub mod Format
 pub mod Answer
 pub mod Write
+pub mod Samples

@@ -1,7 +1,7 @@
 -- Document 01, "Records and their marks" and row 20: how a list and a plan are written, over an edition, and what a writer leaves in a buffer.
 use Prim.Native.Nat.{ℕ, _+_, _<_, _≤_, _^_}
 use mathlib.Core.Bool.{cond}
-use mathlib.Core.List.{List, _++_, flatMap}
+use mathlib.Core.List.{List, [], _∷_, _++_, flatMap}
 use mathlib.Core.Path.{_≡_}
 use lib.ListN.{length, take, drop, getD}
 use lib.Dec.{leb}
@@ -51,3 +51,36 @@ pub record LaidOut (e : Edition) (l : Listing) (p : Plan) (bytes : List ℕ) : T
   pub each : length (p .shares) ≡ length (l .sites)
   pub fits : (i : ℕ) → i < length (p .shares) → getD (p .shares) i 0 < 256 ^ e .share
   pub bytes-are : bytes ≡ planBytes e p
+
+-- ---- what is read back once it is written
+
+-- P holds of every element
+abbrev pub All : {A : Type 0} → (A → Type 0) → List A → Type 0
+All P [] = Unit {0}
+All P (x ∷ xs) = P x × All P xs
+
+-- "Each record has a two-byte mark"
+pub record Marked (e : Edition) : Type 0 where
+  pub list : e .mark .list < 65536
+  pub site : e .mark .site < 65536
+  pub plan : e .mark .plan < 65536
+  pub group : e .mark .group < 65536
+  pub share : e .mark .share < 65536
+
+-- a site that rows 5 and 6 do not refuse
+pub record Allowed (x : Site) : Type 0 where
+  pub first : x .first ≤ 63
+  pub second : x .second ≤ 63
+  pub some : 0 < x .litres
+
+-- and whose litres have the edition's width
+pub record Good (e : Edition) (x : Site) : Type 0 where
+  pub allowed : Allowed x
+  pub fits : x .litres < 256 ^ e .litres
+
+-- a plan has at most 64 groups and 512 shares, and its numbers have the widths of their fields
+pub record GoodPlan (e : Edition) (p : Plan) : Type 0 where
+  pub few : length (p .groups) ≤ 64
+  pub sites : length (p .shares) ≤ 512
+  pub groups : All (λ (g : ℕ). g < 256 ^ 8) (p .groups)
+  pub shares : All (λ (s : ℕ). s < 256 ^ e .share) (p .shares)

@@ -1,6 +1,8 @@
 // Lists and plans as values, and as bytes.
 use density::Site;
 ghost use mathlib.Core.Path.{_≡_};
+ghost use Rattle.records.specs.declared.Read.the-variants.{Refused};
+ghost use Rattle.records.specs.Answer.{Refuses};
 ghost use Rattle.records.specs.Format.{edition1};
 
 pub mod number;
@@ -53,12 +55,6 @@ pub fn edition1() -> Edition
     }
 }
 
-// A reader of records: the bytes, and the position of the next record.
-pub struct Reader<'a> {
-    pub src: &'a [u8],
-    pub at: usize,
-}
-
 // What stands at a position: a record's mark, its body and the position behind it; or no record.
 pub enum Step {
     Record(u64, u64, usize),
@@ -69,6 +65,17 @@ pub enum Step {
 pub enum Read {
     Count(usize),
     Refused(u8),
+}
+
+// The row of an answer that refuses, so that a caller can hand the refusal on.
+pub fn row_of(answer: Read) -> u8
+    requires { ⌜ Refuses answer ⌝ }
+    ensures { λ r. ⌜ answer ≡ Refused r ⌝ }
+{
+    match answer {
+        Read::Refused(n) => n,
+        Read::Count(_) => 0,
+    }
 }
 
 pub struct ListRead {
@@ -85,21 +92,6 @@ pub struct PlanRead {
 pub enum Wrote {
     Length(usize),
     Refused(u8),
-}
-
-// A record that is there: its mark, its body and the position behind it.
-pub struct Record {
-    pub mark: u64,
-    pub body: u64,
-    pub next: usize,
-}
-
-// What a site's record says: the site, and whether its mark is wrong, a depot is above 63, or the litres are 0.
-pub struct SiteRead {
-    pub site: Site,
-    pub mark: bool,
-    pub depot: bool,
-    pub litres: bool,
 }
 
 // What the records of a list say: the sites, and whether a mark is wrong, a depot is above 63, or litres are 0.

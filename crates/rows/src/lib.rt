@@ -72,7 +72,7 @@ pub fn is_broken(s: Site, a: u8, b: u8, all: u64, share: u64) -> bool
     scan::either(share < least, most < share)
 }
 
-// What a depot's scaled load is to be: W of its group, for each of its crews.
+// What a depot's scaled load is to be: W of its group, for each of its crews, of which document 01 has one.
 fn level(w: u64) -> u64
     ensures { λ r. ⌜ ((l : Listing) (d : ℕ) → r ≡ network l .crews d * w) ⌝ }
 {

@@ -1,3 +1,4 @@
+pub mod FirstPlaces
 pub mod ServeRules
 pub mod ServeCalls
 pub mod ServeQuestions

@@ -29,7 +29,7 @@ use Rattle.records.proofs.Outcomes.{or-false}
 use Rattle.tables.specs.declared.Verdict.the-variants as verdict
 use Rattle.tables.specs.Verdict.{verdict}
 use Rattle.tables.specs.Tables.{Counted}
-use Rattle.table.specs.Table.{overlay, heldOf}
+use Rattle.table.specs.Table.{overlay}
 use Rattle.table.proofs.Overlay.{overlay-none, overlay-set}
 use Rattle.held_state.specs.declared.Store.{Store}
 use Rattle.store.specs.declared.Request.{Request}
@@ -37,13 +37,13 @@ use Rattle.store.specs.declared.Request.the-variants.{Load, Change, Add, Propos
 use Rattle.store.specs.declared.Decision.{Decision}
 use Rattle.store.specs.declared.Answer.the-variants as of
 use Rattle.store.specs.Model.{withLitres, missing}
-use Rattle.held_state.specs.Held.{State, listOf, planHeld, corrupt, on}
+use Rattle.held_state.specs.Held.{State, listOf, planHeld, corrupt}
 use Rattle.store.specs.State.{planRow, firstOf, rowFor, refusal, bare}
 use Rattle.store.specs.Decide.{takes}
 use Rattle.serve.specs.Serve.{Served}
 use Rattle.store.proofs.Plans.{settle-refused, settle-passed}
 use Rattle.held_state.proofs.Intact.{intact→, listing, good-range}
-use Rattle.serve.proofs.ServeRules.{Sound, model, call, values, front, held-count, refuses, grants, row-is}
+use Rattle.serve.proofs.ServeRules.{Sound, model, call, values, front, held-count, refuses, grants, row-is, AtTable}
 
 -- ---- verdicts
 
@@ -103,7 +103,7 @@ module _ (e : Edition) (store : Store) (sites : List Site) (places : ℕ) (input
   unfolding firstRow readList
   load-refused n h =
       refuses e store sites places Load input buffer n
-      (λ table a k. subst (λ (m : ℕ). firstRow (listRows e m input) ≡ some n) k (settle-refused (firstRow (listRows e places input)) (listing (sitesOf e input)) h)) r
+      (λ table k a. subst (λ (m : ℕ). firstRow (listRows e m input) ≡ some n) k (settle-refused (firstRow (listRows e places input)) (listing (sitesOf e input)) h)) r
 
   pub load-read : (l : Listing) → readList e places input ≡ passed l
       → r ≡ record { answer = of.Done; store = bare (length (l .sites)); sites = filled 512 (l .sites) noSite; n = length (l .sites) } → Goes Load buffer
@@ -113,8 +113,8 @@ module _ (e : Edition) (store : Store) (sites : List Site) (places : ℕ) (input
       let d = list-read e places input h in
       let n : r .n ≡ length (l .sites) = ap (λ (x : Decision). x .n) q in
       grants e store sites places Load input buffer r buffer (omega (arith, d .few, d .count)) (omega (arith, d .room, d .count))
-      (λ table a k. subst (λ (m : ℕ). firstRow (listRows e m input) ≡ none) k (s .0))
-      (λ table a k. rw (q, d .sites, take-append-seam))
+      (λ table k a. subst (λ (m : ℕ). firstRow (listRows e m input) ≡ none) k (s .0))
+      (λ table k a. rw (q, d .sites, take-append-seam))
 
   module _ (s : Sound e store sites places) where
     -- ---- change
@@ -124,15 +124,15 @@ module _ (e : Edition) (store : Store) (sites : List Site) (places : ℕ) (input
       unfolding firstRow
       change-litres z =
           refuses e store sites places (Change i w) input buffer 6
-          (λ table h k. row-is e store sites places (Change i w) input buffer s table h k ∙ rw (eq-eqb w 0 z)) r
+          (λ table k h. row-is e store sites places (Change i w) input buffer s table k h ∙ rw (eq-eqb w 0 z)) r
 
       module _ (z : w ≡ 0 → ⊥) where
         pub change-beyond : store .count ≤ i → Refusal 18 → Goes (Change i w) buffer
         unfolding firstRow
         change-beyond l =
             refuses e store sites places (Change i w) input buffer 18
-            (λ table h k.
-            row-is e store sites places (Change i w) input buffer s table h k
+            (λ table k h.
+            row-is e store sites places (Change i w) input buffer s table k h
             ∙ rw (ne-eqb w 0 z, held-count e store sites places s, le-leb (store .count) i l)) r
 
         pub change-made : i < store .count
@@ -143,11 +143,11 @@ module _ (e : Edition) (store : Store) (sites : List Site) (places : ℕ) (input
             let few : store .count ≤ 512 = intact→ (values e store sites places) (s .1) .few in
             let n : r .n ≡ store .count = ap (λ (x : Decision). x .n) q in
             grants e store sites places (Change i w) input buffer r buffer (omega arith) (omega (arith, s .0))
-            (λ table h k.
-            row-is e store sites places (Change i w) input buffer s table h k
+            (λ table k h.
+            row-is e store sites places (Change i w) input buffer s table k h
             ∙ rw (ne-eqb w 0 z, held-count e store sites places s, lt-leb (store .count) i l))
-            (λ table h k.
-            let f = front e store sites places table h k (store .count) few (s .0) in
+            (λ table k h.
+            let f = front e store sites places table k h (store .count) few (s .0) in
             let x : getD sites i noSite ≡ getD (take (store .count) table) i noSite =
             sym (getD-take (store .count) sites i noSite l) ∙ ap (λ (xs : List Site). getD xs i noSite) f in
             rw (q, overlay-set (store .count) sites table i (withLitres (getD sites i noSite) w) l f, x))
@@ -162,22 +162,22 @@ module _ (e : Edition) (store : Store) (sites : List Site) (places : ℕ) (input
       unfolding firstRow
       add-full t =
           refuses e store sites places request input buffer 2
-          (λ table h k. row-is e store sites places request input buffer s table h k ∙ rw (held-count e store sites places s, t)) r
+          (λ table k h. row-is e store sites places request input buffer s table k h ∙ rw (held-count e store sites places s, t)) r
 
       module _ (t : (leb 512 (store .count) || leb places (store .count)) ≡ false) where
         pub add-depots : (ltb 63 (x .first) || ltb 63 (x .second)) ≡ true → Refusal 5 → Goes request buffer
         unfolding firstRow
         add-depots u =
             refuses e store sites places request input buffer 5
-            (λ table h k. row-is e store sites places request input buffer s table h k ∙ rw (held-count e store sites places s, t, u)) r
+            (λ table k h. row-is e store sites places request input buffer s table k h ∙ rw (held-count e store sites places s, t, u)) r
 
         module _ (u : (ltb 63 (x .first) || ltb 63 (x .second)) ≡ false) where
           pub add-litres : x .litres ≡ 0 → Refusal 6 → Goes request buffer
           unfolding firstRow
           add-litres z =
               refuses e store sites places request input buffer 6
-              (λ table h k.
-              row-is e store sites places request input buffer s table h k ∙ rw (held-count e store sites places s, t, u, eq-eqb (x .litres) 0 z)) r
+              (λ table k h.
+              row-is e store sites places request input buffer s table k h ∙ rw (held-count e store sites places s, t, u, eq-eqb (x .litres) 0 z)) r
 
           pub add-made : (x .litres ≡ 0 → ⊥) → store .count < 512 → store .count < places
               → r ≡ record { answer = of.Done; store = bare (store .count + 1); sites = set sites (store .count) x; n = store .count + 1 }
@@ -186,10 +186,10 @@ module _ (e : Edition) (store : Store) (sites : List Site) (places : ℕ) (input
           add-made z few room q =
               let n : r .n ≡ store .count + 1 = ap (λ (x : Decision). x .n) q in
               grants e store sites places request input buffer r buffer (omega arith) (omega arith)
-              (λ table h k.
-              row-is e store sites places request input buffer s table h k ∙ rw (held-count e store sites places s, t, u, ne-eqb (x .litres) 0 z))
-              (λ table h k.
-              rw (q, overlay-set (store .count + 1) sites table (store .count) x (omega arith) (front e store sites places table h k (store .count + 1) (omega arith) (omega arith))))
+              (λ table k h.
+              row-is e store sites places request input buffer s table k h ∙ rw (held-count e store sites places s, t, u, ne-eqb (x .litres) 0 z))
+              (λ table k h.
+              rw (q, overlay-set (store .count + 1) sites table (store .count) x (omega arith) (front e store sites places table k h (store .count + 1) (omega arith) (omega arith))))
 
     -- ---- propose
 
@@ -197,8 +197,8 @@ module _ (e : Edition) (store : Store) (sites : List Site) (places : ℕ) (input
     unfolding readPlan
     propose-layout n h =
         refuses e store sites places Propose input buffer n
-        (λ table a k.
-        row-is e store sites places Propose input buffer s table a k
+        (λ table k a.
+        row-is e store sites places Propose input buffer s table k a
         ∙ ap (λ (n : ℕ). firstOf (firstRow (layoutRows e n input)) (planRow (model e store sites places) (planOf e n input)))
         (held-count e store sites places s)
         ∙ ap (λ (o : Option ℕ). firstOf o (planRow (model e store sites places) (planOf e (store .count) input)))
@@ -208,25 +208,24 @@ module _ (e : Edition) (store : Store) (sites : List Site) (places : ℕ) (input
       abbrev judged : Option ℕ
       judged = planRow (model e store sites places) p
 
-      proposed : (table : List Site) → sites ≡ heldOf noSite table → places ≡ length table
-          → refusal (on e store table) (call e store sites places Propose input buffer) ≡ judged
+      proposed : AtTable e store sites places Propose input buffer (λ x. refusal x (call e store sites places Propose input buffer) ≡ judged)
       unfolding readPlan
-      proposed table a k =
+      proposed table k a =
           let o = settle-passed (firstRow (layoutRows e (store .count) input)) (planOf e (store .count) input) h in
-          row-is e store sites places Propose input buffer s table a k
+          row-is e store sites places Propose input buffer s table k a
           ∙ ap (λ (n : ℕ). firstOf (firstRow (layoutRows e n input)) (planRow (model e store sites places) (planOf e n input)))
           (held-count e store sites places s)
           ∙ ap₂ (λ (o : Option ℕ) (q : Plan). firstOf o (planRow (model e store sites places) q)) (o .0) (o .1)
 
       pub propose-refused : (n : ℕ) → judged ≡ some n → Refusal n → Goes Propose buffer
-      propose-refused n j = refuses e store sites places Propose input buffer n (λ table a k. proposed table a k ∙ j) r
+      propose-refused n j = refuses e store sites places Propose input buffer n (λ table k a. proposed table k a ∙ j) r
 
       pub propose-passes : judged ≡ none → r ≡ takes store (planArray p) sites → Goes Propose buffer
       propose-passes j q =
           let n : r .n ≡ 0 = ap (λ (x : Decision). x .n) q in
           grants e store sites places Propose input buffer r buffer (omega arith) (omega arith)
-          (λ table a k. proposed table a k ∙ j)
-          (λ table a k. rw (q, overlay-none sites table, ← (plan-read e (store .count) input h .plan)))
+          (λ table k a. proposed table k a ∙ j)
+          (λ table k a. rw (q, overlay-none sites table, ← (plan-read e (store .count) input h .plan)))
 
     -- ---- questions: no plan is held
 
@@ -237,7 +236,7 @@ module _ (e : Edition) (store : Store) (sites : List Site) (places : ℕ) (input
     unfolding firstRow
     wants request rest q h =
         refuses e store sites places request input buffer 17
-        (λ table a k. row-is e store sites places request input buffer s table a k ∙ q ∙ rw h) r
+        (λ table k a. row-is e store sites places request input buffer s table k a ∙ q ∙ rw h) r
 
     -- ---- the held plan written out
 
@@ -253,7 +252,7 @@ module _ (e : Edition) (store : Store) (sites : List Site) (places : ℕ) (input
           let same : last ≡ buffer = w .buffer ∙ rw (k .0) in
           subst (Goes WrittenOut) (sym same)
           (refuses e store sites places WrittenOut input buffer n
-          (λ table a b. row-is e store sites places WrittenOut input buffer s table a b ∙ rw (held, lt-ltb (length buffer) (length bytes) short, k .1)) r q)
+          (λ table y x. row-is e store sites places WrittenOut input buffer s table y x ∙ rw (held, lt-ltb (length buffer) (length bytes) short, k .1)) r q)
 
       pub written-out : (n : ℕ) → Written bytes buffer (wrote.Length n) last → r ≡ record { answer = of.Length n; store = store; sites = sites; n = 0 }
           → Goes WrittenOut last
@@ -264,5 +263,5 @@ module _ (e : Edition) (store : Store) (sites : List Site) (places : ℕ) (input
           let same : last ≡ onto bytes buffer = w .buffer ∙ rw (k .0) in
           let z : r .n ≡ 0 = ap (λ (x : Decision). x .n) q in
           grants e store sites places WrittenOut input buffer r last (omega arith) (omega arith)
-          (λ table a b. row-is e store sites places WrittenOut input buffer s table a b ∙ rw (held, le-ltb (length buffer) (length bytes) long))
-          (λ table a b. rw (q, same, k .1, overlay-none sites table))
+          (λ table y x. row-is e store sites places WrittenOut input buffer s table y x ∙ rw (held, le-ltb (length buffer) (length bytes) long))
+          (λ table y x. rw (q, same, k .1, overlay-none sites table))

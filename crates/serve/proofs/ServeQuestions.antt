@@ -10,7 +10,7 @@ use lib.Dec.{T}
 use lib.ListN.{length, getD, take}
 use Rattle.sets.proofs.Test.{is-false, passes}
 use Rattle.density.specs.declared.Site.{Site}
-use Rattle.density.specs.Network.{noSite, network, depotsInRange}
+use Rattle.density.specs.Network.{network, depotsInRange}
 use Rattle.density.specs.Plan.{whole}
 use Rattle.density.specs.Rows.{firstRow, groupsMeet, groupsUnlisted, sharesBroken}
 use Rattle.density.specs.Figures.{differenceOf}
@@ -18,7 +18,6 @@ use Rattle.records.specs.declared.Edition.{Edition}
 use Rattle.records.specs.declared.PlanArray.{PlanArray}
 use Rattle.tables.specs.Tables.{Ready}
 use Rattle.tables.proofs.Verdicts.{ready}
-use Rattle.table.specs.Table.{heldOf}
 use Rattle.table.proofs.Overlay.{overlay-none}
 use Rattle.held_state.specs.declared.Store.{Store}
 use Rattle.store.specs.declared.Request.{Request}
@@ -80,7 +79,7 @@ module _ (e : Edition) (store : Store) (sites : List Site) (places : ℕ) (input
       (λ table x y. row-is e store sites places request input buffer s table x y ∙ h)
       (λ table x y. rw (q, overlay-none sites table) (g table x y))
 
-  at-table : (table : List Site) → sites ≡ heldOf noSite table → places ≡ length table → take (store .count) sites ≡ take (store .count) table
+  at-table : (table : List Site) → places ≡ length table → take places sites ≡ take 512 table → take (store .count) sites ≡ take (store .count) table
   at-table table x y = front e store sites places table x y (store .count) (intact→ state (s .1) .few) (s .0)
 
   module _ (i : ℕ) where

@@ -1,5 +1,5 @@
 -- From the values that stand for the table to the step: row 0, one law for a refusal and one for what is granted. Assumes nothing.
-use mathlib.Core.Path.{_≡_, sym, ap, ap₂, _∙_, subst}
+use mathlib.Core.Path.{_≡_, sym, ap₂, _∙_, subst}
 use mathlib.Core.Logic.{⊎-elim}
 use mathlib.Core.Bool.{Bool, true, false, cond, _&&_, _||_, and-false}
 use mathlib.Core.List.{List}
@@ -10,11 +10,9 @@ use lib.Dec.{T, ltb, ltb→lt, nltb→le, not-T}
 use lib.ListN.{length, take}
 use Rattle.sets.proofs.Test.{or-l, or-r, or-cases, and-l, and-r, T?, T-ext, is-true, is-false, passes, fails}
 use Rattle.density.specs.declared.Site.{Site}
-use Rattle.density.specs.Network.{noSite}
 use Rattle.records.specs.declared.Edition.{Edition}
 use Rattle.records.proofs.Outcomes.{or-false}
-use Rattle.table.specs.Table.{heldOf}
-use Rattle.table.proofs.Overlay.{overlay-none, held-length, held-front}
+use Rattle.table.proofs.Overlay.{overlay-none}
 use Rattle.held_state.specs.declared.Store.{Store}
 use Rattle.store.specs.declared.Request.{Request}
 use Rattle.store.specs.declared.Decision.{Decision}
@@ -22,9 +20,10 @@ use Rattle.store.specs.declared.Answer.the-variants as of
 use Rattle.store.specs.Calls.{Call}
 use Rattle.store.specs.Model.{Model}
 use Rattle.held_state.specs.Held.{State, listOf, planHeld, badPlan, corrupt, on}
-use Rattle.store.specs.State.{modelOf, triesZero, rowFor, refusal, effectOf, step}
+use Rattle.store.specs.State.{modelOf, triesZero, rowFor, refusal, effectOf}
 use Rattle.serve.specs.Serve.{decided, Served}
 use Rattle.held_state.proofs.Intact.{Good, listing, Intact, intact→, →intact, sized}
+use Rattle.serve.proofs.FirstPlaces.{same-front, front-there}
 
 module _ (e : Edition) (store : Store) (sites : List Site) (places : ℕ) where
   -- the state with the values in place of the table, and its model with the table's places
@@ -38,12 +37,12 @@ module _ (e : Edition) (store : Store) (sites : List Site) (places : ℕ) where
   abbrev pub Sound : Type 0
   Sound = (store .count ≤ places) × (corrupt values ≡ false)
 
-  module _ (table : List Site) (h : sites ≡ heldOf noSite table) (k : places ≡ length table) where
+  module _ (table : List Site) (k : places ≡ length table) (h : take places sites ≡ take 512 table) where
     abbrev state : State
     state = on e store table
 
     pub front : (n : ℕ) → n ≤ 512 → n ≤ places → take n sites ≡ take n table
-    front n a b = ap (take n) h ∙ held-front noSite table n a (subst (λ (m : ℕ). n ≤ m) k b)
+    front = same-front sites table places h
 
     to-table : store .count ≤ places → Intact values → Intact state
     to-table room i =
@@ -63,7 +62,7 @@ module _ (e : Edition) (store : Store) (sites : List Site) (places : ℕ) where
           room,
           record {
             few = i .few;
-            room = subst (λ (m : ℕ). store .count ≤ m) (sym (ap length h ∙ held-length noSite table)) (i .few);
+            room = front-there sites table places h (store .count) k (i .few) room;
             good = subst (λ (xs : List Site). Good (listing xs)) l (i .good);
             groups = i .groups;
             plan = λ t. subst (λ (xs : List Site). T (badPlan (listing xs) (planHeld values)) → ⊥) l (i .plan t);
@@ -113,23 +112,23 @@ module _ (e : Edition) (store : Store) (sites : List Site) (places : ℕ) where
     call = record { request = request; input = input; buffer = buffer }
 
     abbrev pub AtTable : (State → Type 0) → Type 0
-    AtTable P = (table : List Site) → sites ≡ heldOf noSite table → places ≡ length table → P (on e store table)
+    AtTable P = (table : List Site) → places ≡ length table → take places sites ≡ take 512 table → P (on e store table)
 
     -- a refusal leaves the store, the table and the buffer
     pub refuses : (n : ℕ) → AtTable (λ s. refusal s call ≡ some n) → (r : Decision)
         → r ≡ record { answer = of.Refused n; store = store; sites = sites; n = 0 } → Served e store sites places request input buffer r buffer
     refuses n f r q =
         subst (λ (r : Decision). Served e store sites places request input buffer r buffer) (sym q)
-        (record { steps = λ table h k. rw (f table h k, overlay-none sites table); few = zero-le; room = zero-le })
+        (record { steps = λ table k h. rw (f table k h, overlay-none sites table); few = zero-le; room = zero-le })
 
     -- what no row refuses
     pub grants : (r : Decision) (last : List ℕ) → r .n ≤ 512 → r .n ≤ places → AtTable (λ s. refusal s call ≡ none)
         → AtTable (λ s. decided s r last ≡ effectOf s call request) → Served e store sites places request input buffer r last
-    grants r last few room f g = record { steps = λ table h k. g table h k ∙ rw (f table h k); few = few; room = room }
+    grants r last few room f g = record { steps = λ table k h. g table k h ∙ rw (f table k h); few = few; room = room }
 
     -- row 0 refuses
     pub zero-refuses : triesZero request ≡ true → (ltb places (store .count) || corrupt values) ≡ true → AtTable (λ s. refusal s call ≡ some 0)
-    zero-refuses t z table h k = rw (t, ← (zero-is table h k), z)
+    zero-refuses t z table k h = rw (t, ← (zero-is table k h), z)
 
     pub zero-served : (triesZero request && (ltb places (store .count) || corrupt values)) ≡ true → (r : Decision)
         → r ≡ record { answer = of.Refused 0; store = store; sites = sites; n = 0 } → Served e store sites places request input buffer r buffer
@@ -140,4 +139,4 @@ module _ (e : Edition) (store : Store) (sites : List Site) (places : ℕ) where
 
     -- the row for a call by the values
     pub row-is : Sound → AtTable (λ s. refusal s call ≡ rowFor model call request)
-    row-is s table h k = rw (not-zero table h k s, and-false (triesZero request), same-model table h k s)
+    row-is s table k h = rw (not-zero table k h s, and-false (triesZero request), same-model table k h s)

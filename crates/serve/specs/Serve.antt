@@ -3,11 +3,10 @@
 use mathlib.Core.Path.{_≡_}
 use mathlib.Core.List.{List}
 use Prim.Native.Nat.{ℕ, _≤_}
-use lib.ListN.{length}
+use lib.ListN.{length, take}
 use Rattle.density.specs.declared.Site.{Site}
-use Rattle.density.specs.Network.{noSite}
 use Rattle.records.specs.declared.Edition.{Edition}
-use Rattle.table.specs.Table.{overlay, heldOf}
+use Rattle.table.specs.Table.{overlay}
 use Rattle.held_state.specs.declared.Store.{Store}
 use Rattle.held_state.specs.Held.{State, on}
 use Rattle.store.specs.declared.Request.{Request}
@@ -23,9 +22,10 @@ decided s r buffer =
       reply = record { answer = told (r .answer); buffer = buffer };
     }
 
--- the decision is the step, whatever table the sites were taken from
+-- The decision is the step on every table of that many places whose first 512 places, or all where it has fewer, the sites begin with.
+-- There is such a table for any 512 sites and any number of places (`a-table`).
 pub record Served (e : Edition) (store : Store) (sites : List Site) (places : ℕ) (request : Request) (input buffer : List ℕ) (r : Decision) (last : List ℕ) : Type 0 where
-  pub steps : (table : List Site) → sites ≡ heldOf noSite table → places ≡ length table
+  pub steps : (table : List Site) → places ≡ length table → take places sites ≡ take 512 table
       → decided (on e store table) r last ≡ step (on e store table) (record { request = request; input = input; buffer = buffer })
   pub few : r .n ≤ 512
   pub room : r .n ≤ places

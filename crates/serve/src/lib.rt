@@ -22,11 +22,12 @@ use store::decide::with_plan;
 use store::decide::without_plan;
 use tables::Verdict;
 ghost use mathlib.Core.Path.{_≡_};
-ghost use mathlib.Core.Bool.{true, false, _&&_, _||_};
+ghost use mathlib.Core.Bool.{false, _&&_, _||_};
 ghost use mathlib.Core.List.{List};
 ghost use Prim.Native.Nat.{ℕ, _≤_};
 ghost use lib.Dec.{ltb};
 ghost use Rattle.records.specs.declared.Edition.{Edition};
+ghost use Rattle.records.specs.Bytes.{Bytes};
 ghost use Rattle.held_state.specs.Held.{on, corrupt};
 ghost use Rattle.store.specs.declared.Request.the-variants as request;
 ghost use Rattle.store.specs.State.{triesZero};
@@ -228,7 +229,7 @@ pub fn serve(
     buffer: &mut [u8],
 ) -> Decision
     requires { ⌜ (e .litres ≤ 4) × (e .share ≤ 8) ⌝ }
-    ensures { λ r. ⌜ Served e store sites places request (now (input .entry)) (now (buffer .entry)) r (now (buffer .exit)) ⌝ }
+    ensures { λ r. ⌜ Bytes (now (input .entry)) × Served e store sites places request (now (input .entry)) (now (buffer .entry)) r (now (buffer .exit)) ⌝ }
 {
     if row_zero(request, store, sites, places) {
         return refuse(store, sites, 0);

@@ -57,7 +57,3 @@ zero-is k {x} h = zero-of k (has x) h (λ d l. refl)
 -- `x & y == 0`
 pub and-zero-is : (k : ℕ) {x : ℕ} (y : ℕ) → x < 2 ^ k → eqb (bitAnd x y) 0 ≡ isEmpty (has x ∩ has y) k
 and-zero-is k {x} y h = zero-of k (has x ∩ has y) (and-lt k y h) (λ d l. has-and x y d)
-
--- `x & !y == 0`
-pub and-not-zero-is : (k : ℕ) {x y : ℕ} → x < 2 ^ k → y < 2 ^ k → eqb (bitAnd x (2 ^ k - 1 - y)) 0 ≡ isEmpty (has x ∖ has y) k
-and-not-zero-is k {x} {y} hx hy = zero-of k (has x ∖ has y) (and-lt k (2 ^ k - 1 - y) hx) (has-and-not k x hy)

@@ -93,6 +93,10 @@ when-zero false = refl
 pub when-cong : (a b : Bool) (n : ℕ) → a ≡ b → when a n ≡ when b n
 when-cong a b n e = ap (λ c. when c n) e
 
+pub when-cong-on : (b : Bool) {m n : ℕ} → (T b → m ≡ n) → when b m ≡ when b n
+when-cong-on true f = f tt
+when-cong-on false f = refl
+
 pub cond-on {ℓ} : {A : Type ℓ} (b : Bool) (x y : A) → T b → cond b x y ≡ x
 cond-on true x y t = refl
 cond-on false x y t = absurd t

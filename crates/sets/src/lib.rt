@@ -56,13 +56,6 @@ pub fn are_disjoint(a: u64, b: u64) -> bool
     a & b == 0
 }
 
-// Is every depot of a in b?
-pub fn is_subset(a: u64, b: u64) -> bool
-    ensures { λ r. ⌜ r ≡ isEmpty (has a ∖ has b) 64 ⌝ }
-{
-    a & !b == 0
-}
-
 // How many depots are in the set: the number of ones.
 pub fn size(set: u64) -> u64
     ensures { λ r. ⌜ r ≡ cardinality (has set) 64 ⌝ }

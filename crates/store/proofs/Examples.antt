@@ -1,4 +1,4 @@
--- T and two own sites of 4: histories with their replies, the rows of every call among them, and replies of wrong stores, which no model gives. Assumes nothing.
+-- T, two own sites of 4 and two sites of one pair: histories with their replies, the rows of every call among them, and replies of wrong stores, which no model gives. Assumes nothing.
 use mathlib.Core.Path.{_≡_, refl, sym, ap, ap₂, _∙_, subst}
 use mathlib.Core.Logic.{inl, inr, ⊎-elim}
 use mathlib.Core.Bool.{Bool, true, _&&_}
@@ -14,47 +14,34 @@ use Rattle.sets.specs.Set.{has, weigh}
 use Rattle.sets.proofs.Test.{T?, and-l, and-r}
 use Rattle.sets.proofs.Sum.{all-at}
 use Rattle.density.specs.declared.Site.{Site}
-use Rattle.density.specs.Network.{Listing, Network, network, depotsInRange, litres, size}
+use Rattle.density.specs.Network.{Listing, Network, network, depotsInRange, size}
+use Rattle.density.specs.Groups.{Decomposition}
 use Rattle.density.specs.Plan.{union, place, carrier, groupSize, groupLitres, whole, firstShare, secondShare, shareOf, target, TruePlan}
 use Rattle.density.specs.Rows.{firstRow, groupsMeet, groupsUnlisted, shareBroken, sharesBroken, scaledLoad, loadsUneven, groupsRise, planRows}
 use Rattle.density.specs.Figures.{depotLitres, depotSize, difference, divisor, differenceOf}
-use Rattle.density.specs.Examples.{pair, own, starred}
+use Rattle.density.specs.Examples.{pair, starred}
 use Rattle.density.proofs.Examples.{starred-known}
 use Rattle.density.proofs.Lists.{valid}
 use Rattle.density.proofs.Figures.{depot-litres, depot-size, site-whole}
 use Rattle.records.specs.Bytes.{Bytes, value, le}
 use Rattle.records.specs.Record.{records}
 use Rattle.records.specs.Values.{Plan}
-use Rattle.records.specs.Format.{edition1}
+use Rattle.records.specs.Format.{edition1, planOf}
 use Rattle.records.specs.Write.{planBytes}
+use Rattle.records.specs.Samples.{listT}
 use Rattle.records.proofs.Samples.{marked1}
 use Rattle.store.specs.declared.Request.{Request}
 use Rattle.store.specs.declared.Request.the-variants.{Load, Change, Add, Propose, Share, Depot, Difference, Written}
-use Rattle.store.specs.Calls.{Call, Reply, Told, refused, done, shared, loaded, differ, wrote}
+use Rattle.store.specs.Calls.{Call, Reply, refused, done, shared, loaded, differ, wrote}
 use Rattle.judge.specs.Check.{True}
-use Rattle.store.specs.Model.{Model, emptyModel, Proposes, turned, turn, modelRows}
+use Rattle.store.specs.Model.{Model, emptyModel, Proposes, turned, turn, modelRows, proposalRows}
 use Rattle.held_state.specs.Held.{State}
 use Rattle.store.specs.State.{modelOf}
-use Rattle.store.specs.Trace.{start, then, History, Modelled, AllBytes}
-use Rattle.store.proofs.Plans.{rows-of-true}
+use Rattle.store.specs.Examples.{call, reply, model, plansT, callsT, repliesT, sitesT, loadedT, plannedT, listO, callsO, repliesO, sitesO, loadedO, plannedO, listP, planP, callsP, repliesP, sitesP, loadedP, plannedP, callsR, repliesR, nth}
+use Rattle.store.specs.Trace.{start, then, History, Modelled, AllBytes, lastPassed}
+use Rattle.store.proofs.Plans.{true-of-rows, rows-of-true}
 use Rattle.store.proofs.OneModel.{one-model}
 use Rattle.store.proofs.History.{history1}
-
-abbrev call : Request → List ℕ → List ℕ → Call
-call q i o = record { request = q; input = i; buffer = o }
-
-abbrev reply : Told → List ℕ → Reply
-reply a o = record { answer = a; buffer = o }
-
-abbrev model : List Site → Option Plan → Model
-model l p = record { edition = edition1; places = 2; list = record { sites = l }; plan = p }
-
--- the record of a group and of a share whose number is one byte, and the bytes behind it
-abbrev group : ℕ → List ℕ → List ℕ
-group g s = 0x47 ∷ 0x52 ∷ g ∷ 0x00 ∷ 0x00 ∷ 0x00 ∷ 0x00 ∷ 0x00 ∷ 0x00 ∷ 0x00 ∷ s
-
-abbrev share : ℕ → List ℕ → List ℕ
-share x s = 0x53 ∷ 0x48 ∷ x ∷ 0x00 ∷ 0x00 ∷ 0x00 ∷ s
 
 -- a plan laid out in these bytes, and true of a list whose depots are in range
 module _ (l : Listing) (g x : List ℕ) (t : TruePlan (network l) g x) where
@@ -77,52 +64,32 @@ module _ (l : Listing) (p : Option Plan) (s : List ℕ) (n : ℕ) where
   refuses ok few e =
       inr (λ q t. Option·none-ne-some n (sym (rows-of-true edition1 l (valid l ok) s marked1 few q t) ∙ e), n, e, refl, refl)
 
--- ---- T: its list, its plan, and the same with s = 11, where both shares add up to the whole and are not level
+-- ---- inputs are bytes
 
-abbrev listT : List ℕ
-listT = 0x4C ∷ 0x53 ∷ 0x01 ∷ 0x00 ∷ 0x53 ∷ 0x54 ∷ 0x00 ∷ 0x01 ∷ 0x0A ∷ 0x00 ∷ []
+-- inputs tested to be bytes
+unfoldable inputs : List Call → Bool
+inputs [] = true
+inputs (c ∷ cs) = all (λ i. ltb (getD (c .input) i 0) 256) (length (c .input)) && inputs cs
 
-abbrev planT : ℕ → List ℕ
-planT x = 0x50 ∷ 0x4C ∷ 0x01 ∷ 0x01 ∷ 0x00 ∷ group 0x03 (share x [])
+are-bytes : (s : List ℕ) → T (all (λ i. ltb (getD s i 0) 256) (length s)) → Bytes s
+are-bytes s t i =
+    ⊎-elim (λ l. ltb→lt _ _ (all-at (λ i. ltb (getD s i 0) 256) (length s) t i (ltb→lt i (length s) l)))
+    (λ n. rw (List·getD-eq-default s 0 (nltb→le i (length s) (not-T (ltb i (length s)) n))) (lit< tt)) (T? (ltb i (length s)))
 
-abbrev callsT : List Call
-callsT =
-    call Load listT []
-    ∷ call Propose (planT 0x0A) []
-    ∷ call (Share 0) [] []
-    ∷ call (Depot 0) [] []
-    ∷ call (Difference 0 1) [] []
-    ∷ call Written [] (replicate 22 7)
-    ∷ call Propose (planT 0x0B) []
-    ∷ call (Depot 1) [] []
-    ∷ []
+are-all : (cs : List Call) → T (inputs cs) → AllBytes cs
+unfolding inputs AllBytes
+are-all [] t = tt
+are-all (c ∷ cs) t =
+    let test = all (λ i. ltb (getD (c .input) i 0) 256) (length (c .input)) in
+    (are-bytes (c .input) (and-l test (inputs cs) t), are-all cs (and-r test (inputs cs) t))
 
-abbrev repliesT : List Reply
-repliesT =
-    reply done []
-    ∷ reply done []
-    ∷ reply (shared 10 20) []
-    ∷ reply (loaded 10 2) []
-    ∷ reply (differ (pos 0) 4) []
-    ∷ reply (wrote 21) (planT 0x0A ++ (7 ∷ []))
-    ∷ reply (refused 15) []
-    ∷ reply (loaded 10 2) []
-    ∷ []
-
-abbrev sitesT : Listing
-sitesT = record { sites = pair 0 1 10 ∷ [] }
+-- ---- T
 
 abbrev N : Network
 N = network sitesT
 
 abbrev emptyT : Model
 emptyT = emptyModel edition1 2
-
-abbrev loadedT : Model
-loadedT = model (sitesT .sites) none
-
-abbrev plannedT : Model
-plannedT = model (sitesT .sites) (some (record { groups = 3 ∷ []; shares = 10 ∷ [] }))
 
 loads-T : turned loadedT (reply done []) ≡ turn emptyT (call Load listT [])
 unfolding firstRow value records any
@@ -132,7 +99,7 @@ true-plan-T : TruePlan N (3 ∷ []) (10 ∷ [])
 unfolding starred
 true-plan-T = starred-known 1 (lit< tt) .plan
 
-accepts-T : Proposes loadedT (call Propose (planT 0x0A) []) (reply done []) plannedT
+accepts-T : Proposes loadedT (call Propose (plansT 0x0A) []) (reply done []) plannedT
 unfolding planBytes le flatMap
 accepts-T = inl (record { groups = 3 ∷ []; shares = 10 ∷ [] }, laid sitesT (3 ∷ []) (10 ∷ []) true-plan-T (lit≤ tt) fits, refl, refl)
   where
@@ -162,11 +129,11 @@ depot-T-1 : turned plannedT (reply (loaded 10 2) []) ≡ turn plannedT (call (De
 unfolding firstRow network any sum has weigh size place carrier groupSize groupLitres
 depot-T-1 = ap₂ (λ (w q : ℕ). turned plannedT (reply (loaded w q) [])) (litres-T 1) (size-T 1)
 
-writes-T : turned plannedT (reply (wrote 21) (planT 0x0A ++ (7 ∷ []))) ≡ turn plannedT (call Written [] (replicate 22 7))
+writes-T : turned plannedT (reply (wrote 21) (plansT 0x0A ++ (7 ∷ []))) ≡ turn plannedT (call Written [] (replicate 22 7))
 unfolding firstRow planBytes le flatMap
 writes-T = refl
 
-refuses-T : firstRow (modelRows plannedT (call Propose (planT 0x0B) [])) ≡ some 15
+refuses-T : firstRow (modelRows plannedT (call Propose (plansT 0x0B) [])) ≡ some 15
 unfolding firstRow value records sum any has weigh size network planRows groupsMeet groupsUnlisted sharesBroken shareBroken loadsUneven scaledLoad shareOf target groupsRise place union carrier groupSize groupLitres whole firstShare secondShare
 refuses-T = refl
 
@@ -181,35 +148,9 @@ modelled-T =
     then loads-T
     (then accepts-T
     (then shares-T
-    (then depot-T-0 (then differs-T (then writes-T (then (refuses sitesT (plannedT .plan) (planT 0x0B) 15 in-range-T (lit≤ tt) refuses-T) (then depot-T-1 start)))))))
+    (then depot-T-0 (then differs-T (then writes-T (then (refuses sitesT (plannedT .plan) (plansT 0x0B) 15 in-range-T (lit≤ tt) refuses-T) (then depot-T-1 start)))))))
 
--- ---- own 0 and own 1 of 4: groups {0}, {1} are level, and do not fall; {0,1} is the plan, and a change that changes nothing drops it
-
-abbrev listO : List ℕ
-listO =
-    0x4C ∷ 0x53 ∷ 0x02 ∷ 0x00 ∷ 0x53 ∷ 0x54 ∷ 0x00 ∷ 0x00 ∷ 0x04 ∷ 0x00 ∷ 0x53 ∷ 0x54 ∷ 0x01 ∷ 0x01 ∷ 0x04 ∷ 0x00 ∷ []
-
-abbrev callsO : List Call
-callsO =
-    call Load listO []
-    ∷ call Propose (0x50 ∷ 0x4C ∷ 0x02 ∷ 0x02 ∷ 0x00 ∷ group 0x01 (group 0x02 (share 0x04 (share 0x04 [])))) []
-    ∷ call (Depot 0) [] []
-    ∷ call Propose (0x50 ∷ 0x4C ∷ 0x01 ∷ 0x02 ∷ 0x00 ∷ group 0x03 (share 0x08 (share 0x08 []))) []
-    ∷ call (Change 0 4) [] []
-    ∷ call (Depot 0) [] []
-    ∷ []
-
-abbrev repliesO : List Reply
-repliesO = reply done [] ∷ reply (refused 16) [] ∷ reply (refused 17) [] ∷ reply done [] ∷ reply done [] ∷ reply (refused 17) [] ∷ []
-
-abbrev sitesO : Listing
-sitesO = record { sites = own 0 4 ∷ own 1 4 ∷ [] }
-
-abbrev loadedO : Model
-loadedO = model (sitesO .sites) none
-
-abbrev plannedO : Model
-plannedO = model (sitesO .sites) (some (record { groups = 3 ∷ []; shares = 8 ∷ 8 ∷ [] }))
+-- ---- own 0 and own 1 of 4
 
 loads-O : turned loadedO (reply done []) ≡ turn emptyT (call Load listO [])
 unfolding firstRow value records any
@@ -244,46 +185,55 @@ modelled-O : Modelled edition1 2 callsO repliesO loadedO
 modelled-O =
     then loads-O (then (refuses sitesO none (getD callsO 1 (call Load [] []) .input) 16 in-range-O (lit≤ tt) refuses-O) (then wants-O (then accepts-O (then changes-O (then wants-O start)))))
 
--- ---- the rows of the calls: T on a desk of two places; where two rows apply, the first is given
+-- ---- (0,1) of 1 twice
+
+in-range-P : T (depotsInRange sitesP)
+unfolding depotsInRange all
+in-range-P = tt
+
+-- a proposal that no row refuses
+true-P : (s : List ℕ) → T (all (λ i. ltb (getD s i 0) 256) (length s)) → firstRow (proposalRows edition1 sitesP s) ≡ none → True edition1 sitesP (planOf edition1 2 s) s
+true-P s t = true-of-rows edition1 sitesP (valid sitesP in-range-P) s (are-bytes s t)
+
+true-P-2-0 : True edition1 sitesP (planOf edition1 2 (planP 0x02 0x00)) (planP 0x02 0x00)
+unfolding all firstRow value records sum any has weigh size network planRows groupsMeet groupsUnlisted sharesBroken shareBroken loadsUneven scaledLoad shareOf target groupsRise place union carrier groupSize groupLitres whole firstShare secondShare
+true-P-2-0 = true-P (planP 0x02 0x00) tt refl
+
+true-P-0-2 : True edition1 sitesP (planOf edition1 2 (planP 0x00 0x02)) (planP 0x00 0x02)
+unfolding all firstRow value records sum any has weigh size network planRows groupsMeet groupsUnlisted sharesBroken shareBroken loadsUneven scaledLoad shareOf target groupsRise place union carrier groupSize groupLitres whole firstShare secondShare
+true-P-0-2 = true-P (planP 0x00 0x02) tt refl
+
+loads-P : turned loadedP (reply done []) ≡ turn emptyT (call Load listP [])
+unfolding firstRow value records any
+loads-P = refl
+
+accepts-P : Proposes loadedP (call Propose (planP 0x02 0x00) []) (reply done []) (plannedP 2 0)
+unfolding value records
+accepts-P = inl (planOf edition1 2 (planP 0x02 0x00), true-P-2-0, refl, refl)
+
+accepts-P-again : Proposes (plannedP 2 0) (call Propose (planP 0x00 0x02) []) (reply done []) (plannedP 0 2)
+unfolding value records
+accepts-P-again = inl (planOf edition1 2 (planP 0x00 0x02), true-P-0-2, refl, refl)
+
+groups-P : Decomposition (network sitesP) (3 ∷ [])
+unfolding value records
+groups-P = true-P-0-2 .groups
+
+shares-P : turned (plannedP 0 2) (reply (shared 0 2) []) ≡ turn (plannedP 0 2) (call (Share 0) [] [])
+unfolding firstRow network sum has weigh size place carrier groupSize whole
+shares-P = ap (λ (w : ℕ). turned (plannedP 0 2) (reply (shared 0 w) [])) (site-whole (network sitesP) (valid sitesP in-range-P) (3 ∷ []) groups-P 0)
+
+writes-P : turned (plannedP 0 2) (reply (wrote 27) (planP 0x00 0x02 ++ (7 ∷ []))) ≡ turn (plannedP 0 2) (call Written [] (replicate 28 7))
+unfolding firstRow planBytes le flatMap
+writes-P = refl
+
+modelled-P : Modelled edition1 2 callsP repliesP (plannedP 0 2)
+modelled-P = then loads-P (then accepts-P (then accepts-P-again (then shares-P (then writes-P start))))
+
+-- ---- the rows of the calls
 
 abbrev added : Model
 added = model (pair 0 1 10 ∷ pair 0 1 1 ∷ []) none
-
-abbrev callsR : List Call
-callsR =
-    call (Share 0) [] []
-    ∷ call Load listT []
-    ∷ call (Change 1 0) [] []
-    ∷ call (Change 1 5) [] []
-    ∷ call (Add 64 0 0) [] []
-    ∷ call (Add 0 1 0) [] []
-    ∷ call (Add 0 1 1) [] []
-    ∷ call (Add 64 0 0) [] []
-    ∷ call Load listT []
-    ∷ call Propose (planT 0x0A) []
-    ∷ call (Share 1) [] []
-    ∷ call (Depot 2) [] []
-    ∷ call (Difference 0 2) [] []
-    ∷ call Written [] (replicate 20 7)
-    ∷ []
-
-abbrev repliesR : List Reply
-repliesR =
-    reply (refused 17) []
-    ∷ reply done []
-    ∷ reply (refused 6) []
-    ∷ reply (refused 18) []
-    ∷ reply (refused 5) []
-    ∷ reply (refused 6) []
-    ∷ reply done []
-    ∷ reply (refused 2) []
-    ∷ reply done []
-    ∷ reply done []
-    ∷ reply (refused 18) []
-    ∷ reply (refused 19) []
-    ∷ reply (refused 19) []
-    ∷ reply (refused 20) (replicate 20 7)
-    ∷ []
 
 -- the reply to a call that leaves the model
 abbrev Leaves : Model → Request → List ℕ → ℕ → Type 0
@@ -349,23 +299,6 @@ modelled-R =
 
 -- ---- the store's history has these replies
 
--- inputs tested to be of bytes
-unfoldable inputs : List Call → Bool
-inputs [] = true
-inputs (c ∷ cs) = all (λ i. ltb (getD (c .input) i 0) 256) (length (c .input)) && inputs cs
-
-are-bytes : (s : List ℕ) → T (all (λ i. ltb (getD s i 0) 256) (length s)) → Bytes s
-are-bytes s t i =
-    ⊎-elim (λ l. ltb→lt _ _ (all-at (λ i. ltb (getD s i 0) 256) (length s) t i (ltb→lt i (length s) l)))
-    (λ n. rw (List·getD-eq-default s 0 (nltb→le i (length s) (not-T (ltb i (length s)) n))) (lit< tt)) (T? (ltb i (length s)))
-
-are-all : (cs : List Call) → T (inputs cs) → AllBytes cs
-unfolding inputs AllBytes
-are-all [] t = tt
-are-all (c ∷ cs) t =
-    let test = all (λ i. ltb (getD (c .input) i 0) 256) (length (c .input)) in
-    (are-bytes (c .input) (and-l test (inputs cs) t), are-all cs (and-r test (inputs cs) t))
-
 -- what the model answers, the store answers on any table of two places
 has-history : (calls : List Call) (replies : List Reply) (b : Model) → Modelled edition1 2 calls replies b → AllBytes calls → (x y : Site)
     → (s : State) × History edition1 (x ∷ y ∷ []) calls replies s × (modelOf s ≡ b)
@@ -382,15 +315,28 @@ pub history-O : (x y : Site) → (s : State) × History edition1 (x ∷ y ∷ []
 unfolding inputs all
 history-O = has-history callsO repliesO loadedO modelled-O (are-all callsO tt)
 
+pub history-P : (x y : Site) → (s : State) × History edition1 (x ∷ y ∷ []) callsP repliesP s × (modelOf s ≡ plannedP 0 2)
+unfolding inputs all
+history-P = has-history callsP repliesP (plannedP 0 2) modelled-P (are-all callsP tt)
+
 pub history-R : (x y : Site) → (s : State) × History edition1 (x ∷ y ∷ []) callsR repliesR s × (modelOf s ≡ plannedT)
 unfolding inputs all
 history-R = has-history callsR repliesR plannedT modelled-R (are-all callsR tt)
 
--- ---- what no model answers, and so no history has
+-- the proposal that passed last, by these calls and replies: of T its plan, of the own sites none after the change, of the pair the second
+pub last-T : lastPassed none callsT repliesT ≡ some (plansT 0x0A)
+unfolding lastPassed
+last-T = refl
 
--- the answer to the i-th call
-abbrev nth : ℕ → List Reply → Told
-nth i rs = getD rs i (reply done []) .answer
+pub last-O : lastPassed none callsO repliesO ≡ none
+unfolding lastPassed
+last-O = refl
+
+pub last-P : lastPassed none callsP repliesP ≡ some (planP 0x00 0x02)
+unfolding lastPassed
+last-P = refl
+
+-- ---- what no model answers, and so no history has
 
 module _ (rs : List Reply) (b : Model) (run : Modelled edition1 2 callsT rs b) where
   is-T : (i : ℕ) → nth i repliesT ≡ nth i rs

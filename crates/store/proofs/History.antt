@@ -1,5 +1,5 @@
 -- Demand 3: whatever calls a fresh store gets, it answers them as the model does, and holds what the model holds. Assumes nothing.
-use mathlib.Core.Path.{_≡_, refl, sym, ap, _∙_, subst}
+use mathlib.Core.Path.{_≡_, refl, sym, ap, ap₂, _∙_, subst}
 use mathlib.Core.Logic.{_↔_, inl, inr}
 use mathlib.Core.Bool.{Bool, true, false, cond, _||_, true≢false}
 use mathlib.Core.List.{List, [], _∷_, _++_}
@@ -10,29 +10,29 @@ use lib.Dec.{leb, ltb}
 use lib.IntN.{ℤ}
 use lib.ListN.{length, getD, replicate, length-replicate}
 use Rattle.density.specs.declared.Site.{Site}
-use Rattle.density.specs.Network.{Network, network, noSite}
+use Rattle.density.specs.Network.{Listing, Network, network, noSite}
 use Rattle.density.specs.Groups.{Decomposition}
-use Rattle.density.specs.Plan.{place, groupLitres, groupSize}
+use Rattle.density.specs.Plan.{place, groupLitres, groupSize, whole}
 use Rattle.density.specs.Rows.{firstRow}
 use Rattle.density.specs.Figures.{depotLitres, depotSize, siteWhole, difference, divisor, differenceOf}
 use Rattle.density.proofs.Figures.{depot-litres, depot-size, site-whole}
 use Rattle.records.specs.declared.Edition.{Edition}
 use Rattle.records.specs.Bytes.{Bytes}
 use Rattle.records.specs.Values.{Plan}
-use Rattle.records.specs.Format.{edition1}
-use Rattle.records.specs.Write.{planBytes}
-use Rattle.records.proofs.RoundTrip.{Marked}
+use Rattle.records.specs.Format.{edition1, planOf}
+use Rattle.records.specs.Write.{planBytes, onto, All, Marked}
 use Rattle.records.proofs.Samples.{marked1}
 use Rattle.store.specs.declared.Request.{Request}
 use Rattle.store.specs.declared.Request.the-variants.{Load, Change, Add, Propose, Share, Depot, Difference, Written}
-use Rattle.store.specs.Calls.{Call, Reply, Told, refused, done, shared, loaded, differ}
+use Rattle.store.specs.Calls.{Call, Reply, Told, refused, done, shared, loaded, differ, wrote}
 use Rattle.judge.specs.Check.{True}
 use Rattle.store.specs.Model.{Model, missing, held, count, unlisted, rowsOf, modelRows, Turn, Turns, Proposes, SaysOf, Says, grantOf, settled, turned}
 use Rattle.held_state.specs.Held.{State, planHeld, listOf, corrupt}
-use Rattle.store.specs.State.{Done, modelOf, fresh, effectOf, refusal, settle, step}
-use Rattle.store.specs.Trace.{Run, start, then, Steps, History, Modelled, AllBytes, after, passedSince, Question, Each, Exact}
+use Rattle.store.specs.State.{Done, modelOf, fresh, effectOf, settle, step}
+use Rattle.store.specs.Trace.{Run, start, then, Steps, History, Modelled, AllBytes, lastPassed, planFrom, Question, Exact, SameFigures}
 use Rattle.store.proofs.Rules.{granted-not-refused}
 use Rattle.store.proofs.Steps.{Holds, holds-valid, Fed, fed, fresh-holds, row-zero-off, kept, not-zero}
+use Rattle.store.proofs.LastPassed.{Backed, run-backed, backed-from, backed-true, none-from}
 use Rattle.store.proofs.OneModel.{one-run, one-model, one-says}
 
 -- ---- a run of steps is a run of the model
@@ -42,11 +42,11 @@ record Reached (s : State) (calls : List Call) (replies : List Reply) (s' : Stat
   holds : Holds s'
   edition : s' .edition ≡ s .edition
   places : length (s' .table) ≡ length (s .table)
-  never-zero : Each (λ (r : Reply). r .answer ≡ refused 0 → ⊥) replies
+  never-zero : All (λ (r : Reply). r .answer ≡ refused 0 → ⊥) replies
 
 reached : {s s' : State} {calls : List Call} {replies : List Reply} → Run Steps s calls replies s' → Marked (s .edition) → Holds s → AllBytes calls
     → Reached s calls replies s'
-unfolding AllBytes Each
+unfolding AllBytes
 reached start m h b = record { model = start; holds = h; edition = refl; places = refl; never-zero = tt }
 reached (then {s = s} {s₁ = s₁} {c = c} {r = r} x xs) m h b =
     let k = kept s c m h (fed (c .request) (c .input) (b .0)) r s₁ x in
@@ -58,46 +58,6 @@ reached (then {s = s} {s₁ = s₁} {c = c} {r = r} x xs) m h b =
       places = rest .places ∙ k .places;
       never-zero = (not-zero s c r s₁ (h .intact) x, rest .never-zero);
     }
-
--- ---- whether a plan is held, by calls and replies alone
-
-kept-flag : (q : Request) (n : ℕ) (b : Bool) → after q (refused n) b ≡ b
-kept-flag Load n b = refl
-kept-flag (Change i w) n b = refl
-kept-flag (Add f s w) n b = refl
-kept-flag Propose n b = refl
-kept-flag (Share i) n b = refl
-kept-flag (Depot d) n b = refl
-kept-flag (Difference a d) n b = refl
-kept-flag Written n b = refl
-
-module _ (s : State) (c : Call) where
-  granted-flag : (q : Request) → effectOf s c q .after .store .held ≡ after q (effectOf s c q .reply .answer) (s .store .held)
-  granted-flag Load = refl
-  granted-flag (Change i w) = refl
-  granted-flag (Add f x w) = refl
-  granted-flag Propose = refl
-  granted-flag (Share i) = refl
-  granted-flag (Depot d) = refl
-  granted-flag (Difference a d) = refl
-  granted-flag Written = refl
-
-  flag : (o : Option ℕ) (q : Request)
-      → settle o s c (effectOf s c q) .after .store .held ≡ after q (settle o s c (effectOf s c q) .reply .answer) (s .store .held)
-  flag none q = granted-flag q
-  flag (some n) q = sym (kept-flag q n (s .store .held))
-
-  flag-step : (r : Reply) (s' : State) → Steps s c r s' → s' .store .held ≡ after (c .request) (r .answer) (s .store .held)
-  flag-step r s' x =
-      subst (λ (d : Done). d .after .store .held ≡ after (c .request) (d .reply .answer) (s .store .held)) (sym x)
-      (flag (refusal s c) (c .request))
-
-flag-run : {s s' : State} {calls : List Call} {replies : List Reply} → Run Steps s calls replies s'
-    → s' .store .held ≡ passedSince (s .store .held) calls replies
-unfolding passedSince
-flag-run start = refl
-flag-run (then {s = s} {s₁ = s₁} {c = c} {cs = cs} {r = r} {rs = rs} x xs) =
-    flag-run xs ∙ ap (λ (b : Bool). passedSince b cs rs) (flag-step s c r s₁ x)
 
 -- ---- a question
 
@@ -132,15 +92,35 @@ module _ (s : State) (c : Call) where
       let w = wants (c .request) q in
       (λ a. w .0 (sym e ∙ a), λ a. e ∙ w .1 a)
 
+-- every answer but a refusal
+abbrev Answered : Told → Type 0
+Answered (refused n) = ⊥
+Answered done = Unit {0}
+Answered (shared s w) = Unit {0}
+Answered (loaded w q) = Unit {0}
+Answered (differ d q) = Unit {0}
+Answered (wrote n) = Unit {0}
+
+-- where a question is answered, a proposal has passed
+some-passed : {a b : Told} (o : Option (List ℕ)) → (a ≡ refused 17) ↔ (o ≡ none) → a ≡ b → Answered b → (bytes : List ℕ) × (o ≡ some bytes)
+some-passed none w e g = absurd (subst Answered (sym e ∙ w .1 refl) g)
+some-passed (some s) w e g = (s, refl)
+
 -- ---- the answers of the model
 
 module _ (b : Model) (c : Call) (r : Reply) (b' : Model) where
-  -- the model's answer to a call whose request is known
+  -- the model's reply to a call whose request is known
+  abbrev replyTo : Request → Option ℕ → Reply
+  replyTo q o = settled o b c (grantOf b c q) .reply
+
+  reply-to : (q : Request) → c .request ≡ q → Turns b c r b' → r ≡ replyTo q (firstRow (rowsOf b c q))
+  reply-to q k t = ap (λ (u : Turn). u .reply) (subst (λ (q : Request). turned b' r ≡ settled (firstRow (rowsOf b c q)) b c (grantOf b c q)) k t)
+
   abbrev answerTo : Request → Option ℕ → Told
-  answerTo q o = settled o b c (grantOf b c q) .reply .answer
+  answerTo q o = replyTo q o .answer
 
   answer-to : (q : Request) → c .request ≡ q → Turns b c r b' → r .answer ≡ answerTo q (firstRow (rowsOf b c q))
-  answer-to q k t = ap (λ (u : Turn). u .reply .answer) (subst (λ (q : Request). turned b' r ≡ settled (firstRow (rowsOf b c q)) b c (grantOf b c q)) k t)
+  answer-to q k t = ap (λ (a : Reply). a .answer) (reply-to q k t)
 
   loaded-is : (d w q : ℕ) (o : Option ℕ) → r .answer ≡ answerTo (Depot d) o → r .answer ≡ loaded w q
       → (w ≡ depotLitres (network (b .list)) d) × (q ≡ depotSize (network (b .list)) d)
@@ -156,6 +136,15 @@ module _ (b : Model) (c : Call) (r : Reply) (b' : Model) where
       → (z ≡ difference (network (b .list)) x y) × (q ≡ divisor (network (b .list)) x y)
   differ-is x y z q none e a = (cc, cc)
   differ-is x y z q (some n) e a = absurd (let z : _≡_ {A = ℕ} 0 1 = cc in omega arith)
+
+  wrote-is : (n : ℕ) (o : Option ℕ) → r ≡ replyTo Written o → r .answer ≡ wrote n
+      → let out : List ℕ = planBytes (b .edition) (held (b .plan)) in
+      (n ≡ length out) × (r .buffer ≡ onto out (c .buffer))
+  wrote-is n none e a =
+      let k : r .answer ≡ replyTo Written none .answer = ap (λ (a : Reply). a .answer) e in
+      (cc, ap (λ (a : Reply). a .buffer) e)
+  wrote-is n (some m) e a =
+      absurd (let k : r .answer ≡ refused m = ap (λ (a : Reply). a .answer) e in let z : _≡_ {A = ℕ} 0 1 = cc in omega arith)
 
   proposed : Proposes b c r b' → (r .answer ≡ done) ↔ ((p : Plan) × True (b .edition) (b .list) p (c .input))
   proposed (inl (p, t, x, y)) = (λ e. (p, t), λ e. ap (λ (r : Reply). r .answer) x)
@@ -212,6 +201,46 @@ module _ {e : Edition} (m : Marked e) {table : List Site} {calls : List Call} {r
       differ-is b c r (modelOf s') y d z q (firstRow (rowsOf b c (Difference y d)))
       (answer-to b c r (modelOf s') (Difference y d) k (says-to c r s' (Difference y d) k tt x)) a
 
+  -- the plan held is that of the proposal that passed last
+  abbrev last : Option (List ℕ)
+  last = lastPassed none calls replies
+
+  backed : Backed e (b .list) last (b .plan)
+  backed = subst (λ (e : Edition). Backed e (b .list) last (b .plan)) (final .edition) (run-backed (final .model) none tt)
+
+  plan-held : b .plan ≡ planFrom e (count b) last
+  plan-held = backed-from e (b .list) last (b .plan) backed
+
+  wanting : (c : Call) (r : Reply) (s' : State) → Question (c .request) → Steps s c r s' → (r .answer ≡ refused 17) ↔ (last ≡ none)
+  wanting c r s' q x =
+      let w = question s c (final .holds .intact) r s' q x in
+      let f = none-from e (count b) (planHeld s) (s .store .held) last plan-held in
+      (λ a. f .0 (w .0 a), λ a. w .1 (f .1 a))
+
+  -- so where a question is answered there is one
+  held-last : (c : Call) (r : Reply) (s' : State) (q : Request) → c .request ≡ q → Question q → Steps s c r s' → {a : Told} → r .answer ≡ a → Answered a
+      → (bytes : List ℕ) × (last ≡ some bytes) × (b .plan ≡ some (planOf e (count b) bytes))
+  held-last c r s' q k h x a g =
+      let (bytes, l) = some-passed last (wanting c r s' (subst Question (sym k) h) x) a g in
+      (bytes, l, plan-held ∙ ap (planFrom e (count b)) l)
+
+  site-read : (c : Call) (i : ℕ) (r : Reply) (s' : State) (y w : ℕ) → c .request ≡ Share i → Steps s c r s' → r .answer ≡ shared y w
+      → (bytes : List ℕ) × (last ≡ some bytes) × (y ≡ getD (planOf e (count b) bytes .shares) i 0)
+  site-read c i r s' y w k x a =
+      let (bytes, l, p) = held-last c r s' (Share i) k tt x a tt in
+      (bytes, l, site-says c i r s' y w k x a .0 ∙ ap (λ (m : Option Plan). getD (held m .shares) i 0) p)
+
+  -- "the book's plan stands at the front of the buffer byte for byte"
+  written : (c : Call) (r : Reply) (s' : State) (n : ℕ) → c .request ≡ Written → Steps s c r s' → r .answer ≡ wrote n
+      → (bytes : List ℕ) × (last ≡ some bytes) × (n ≡ length bytes) × (r .buffer ≡ onto bytes (c .buffer))
+  written c r s' n k x a =
+      let (bytes, l, p) = held-last c r s' Written k tt x a tt in
+      let w = wrote-is b c r (modelOf s') n (firstRow (rowsOf b c Written)) (reply-to b c r (modelOf s') Written k (says-to c r s' Written k tt x)) a in
+      let same : planBytes (b .edition) (held (b .plan)) ≡ bytes =
+      ap₂ (λ (e : Edition) (m : Option Plan). planBytes e (held m)) (final .edition) p
+      ∙ sym (backed-true e (b .list) last (b .plan) bytes backed l .layout .bytes-are) in
+      (bytes, l, w .0 ∙ ap length same, w .1 ∙ ap (λ (z : List ℕ). onto z (c .buffer)) same)
+
   -- Demand 3: every history is as the model has it.
   pub exact : Exact e table calls replies s
   exact =
@@ -221,10 +250,9 @@ module _ {e : Edition} (m : Marked e) {table : List Site} {calls : List Call} {r
         never-zero = final .never-zero;
         tidy = final .holds .tidy;
         sized = final .places;
-        wanting = λ c r s' q x.
-            let w = question s c (final .holds .intact) r s' q x in
-            let f = flag-run h in
-            (λ a. sym f ∙ w .0 a, λ a. w .1 (f ∙ a));
+        plan-held = plan-held;
+        plan-true = λ bytes l. backed-true e (b .list) last (b .plan) bytes backed l;
+        wanting = wanting;
         gate = λ c r s' k f x.
             subst (λ (e : Edition). (r .answer ≡ done) ↔ ((p : Plan) × True e (b .list) p (c .input))) (final .edition)
             (proposed b c r (modelOf s') (says-to c r s' Propose k f x));
@@ -233,12 +261,13 @@ module _ {e : Edition} (m : Marked e) {table : List Site} {calls : List Call} {r
             let f = depot-says c d r s' w q k x a in
             (f .0 ∙ sym (depot-litres (network (b .list)) ok gs dec d), f .1 ∙ sym (depot-size (network (b .list)) ok gs dec d));
         site-figures = λ c i r s' y w k x a gs dec.
-            let f = site-says c i r s' y w k x a in
-            (f .0, f .1 ∙ sym (site-whole (network (b .list)) (holds-valid s (final .holds)) gs dec i));
+            let (bytes, l, y-is) = site-read c i r s' y w k x a in
+            (bytes, l, y-is, site-says c i r s' y w k x a .1 ∙ sym (site-whole (network (b .list)) (holds-valid s (final .holds)) gs dec i));
         differences = λ c y d r s' z q k x a gs dec.
             let f = difference-says c y d r s' z q k x a in
             let g = difference-is s (final .holds) gs dec y d in
             (f .0 ∙ g .0, f .1 ∙ g .1);
+        written-out = written;
       }
 
 -- Every list of calls has a history.
@@ -264,7 +293,7 @@ one-reply {e} m {places} {calls} {replies} {b} run bytes c f =
     subst (λ (b : Model). Says b c r b') (sym same) (said m h bytes c r (step s c .after) (fed (c .request) (c .input) f) refl) in
     (r, b', says, λ r₂ b₂ y. one-says b c r₂ r b₂ b' y says)
 
--- Demand 3 at edition 1: nothing is asked but that inputs are of bytes.
+-- Demand 3 at edition 1: nothing is asked but that inputs are bytes.
 pub history1 : (table : List Site) (calls : List Call) → AllBytes calls
     → (replies : List Reply) × (s : State) × History edition1 table calls replies s × Exact edition1 table calls replies s
 history1 = history edition1 marked1
@@ -284,28 +313,61 @@ pub extends : {e : Edition} {table : List Site} {calls : List Call} {rs : List R
     → (r : Reply) × (s' : State) × Steps s c r s' × History e table (calls ++ (c ∷ [])) (rs ++ (r ∷ [])) s'
 extends {s = s} h c = (step s c .reply, step s c .after, refl, extended h c)
 
--- Two stores that hold the same list, of whatever histories: each figure that both answer is the same.
-pub record SameFigures (s₁ s₂ : State) : Type 0 where
-  pub depot : (c₁ c₂ : Call) (d : ℕ) (r₁ r₂ : Reply) (s₁' s₂' : State) (w₁ q₁ w₂ q₂ : ℕ) → c₁ .request ≡ Depot d → c₂ .request ≡ Depot d
-      → Steps s₁ c₁ r₁ s₁' → Steps s₂ c₂ r₂ s₂' → r₁ .answer ≡ loaded w₁ q₁ → r₂ .answer ≡ loaded w₂ q₂ → (w₁ ≡ w₂) × (q₁ ≡ q₂)
-  pub site : (c₁ c₂ : Call) (i : ℕ) (r₁ r₂ : Reply) (s₁' s₂' : State) (x₁ w₁ x₂ w₂ : ℕ) → c₁ .request ≡ Share i → c₂ .request ≡ Share i
-      → Steps s₁ c₁ r₁ s₁' → Steps s₂ c₂ r₂ s₂' → r₁ .answer ≡ shared x₁ w₁ → r₂ .answer ≡ shared x₂ w₂ → w₁ ≡ w₂
-  pub differences : (c₁ c₂ : Call) (a d : ℕ) (r₁ r₂ : Reply) (s₁' s₂' : State) (z₁ : ℤ) (q₁ : ℕ) (z₂ : ℤ) (q₂ : ℕ) → c₁ .request ≡ Difference a d
-      → c₂ .request ≡ Difference a d → Steps s₁ c₁ r₁ s₁' → Steps s₂ c₂ r₂ s₂' → r₁ .answer ≡ differ z₁ q₁ → r₂ .answer ≡ differ z₂ q₂
-      → (z₁ ≡ z₂) × (q₁ ≡ q₂)
+-- Each call of a run is a step from a run: the one that the calls before it are.
+pub cut : {s s' : State} (cs : List Call) (c : Call) (ds : List Call) {rs : List Reply} → Run Steps s (cs ++ (c ∷ ds)) rs s'
+    → (qs : List Reply) × (r : Reply) × (ts : List Reply) × (t : State) × (t' : State) × (rs ≡ qs ++ (r ∷ ts)) × Run Steps s cs qs t × Steps t c r t' × Run Steps t' ds ts s'
+cut [] c ds (then {s = s} {s₁ = s₁} {r = r} {rs = rs} x xs) = ([], r, rs, s, s₁, refl, start, x, xs)
+cut (d ∷ cs) c ds (then {r = q} x xs) =
+    let (qs, r, ts, t, t', e, run, y, rest) = cut cs c ds xs in
+    (q ∷ qs, r, ts, t, t', ap (λ (l : List Reply). q ∷ l) e, then x run, y, rest)
 
-pub same-figures : {e₁ e₂ : Edition} {t₁ t₂ : List Site} {cs₁ cs₂ : List Call} {rs₁ rs₂ : List Reply} {s₁ s₂ : State} → Marked e₁ → Marked e₂
-    → History e₁ t₁ cs₁ rs₁ s₁ → AllBytes cs₁ → History e₂ t₂ cs₂ rs₂ s₂ → AllBytes cs₂ → modelOf s₁ .list ≡ modelOf s₂ .list → SameFigures s₁ s₂
-same-figures m₁ m₂ h₁ b₁ h₂ b₂ l =
+bytes-cut : (cs : List Call) (c : Call) (ds : List Call) → AllBytes (cs ++ (c ∷ ds)) → AllBytes cs × Bytes (c .input)
+unfolding AllBytes
+bytes-cut [] c ds b = (tt, b .0)
+bytes-cut (d ∷ cs) c ds b = let (x, y) = bytes-cut cs c ds (b .1) in ((b .0, x), y)
+
+-- What is said of the calls before a call, so that each field of `Exact` speaks of every call inside a history.
+pub each-call : {e : Edition} → Marked e → {table : List Site} (cs : List Call) (c : Call) (ds : List Call) {rs : List Reply} {s : State}
+    → History e table (cs ++ (c ∷ ds)) rs s → AllBytes (cs ++ (c ∷ ds))
+    → (qs : List Reply) × (r : Reply) × (ts : List Reply) × (t : State) × (t' : State) × (rs ≡ qs ++ (r ∷ ts)) × Exact e table cs qs t × Bytes (c .input) × Steps t c r t' × Run Steps t' ds ts s
+each-call m cs c ds h bytes =
+    let (qs, r, ts, t, t', e, run, x, rest) = cut cs c ds h in
+    let (before, here) = bytes-cut cs c ds bytes in
+    (qs, r, ts, t, t', e, exact m run before, here, x, rest)
+
+-- ---- two stores that hold the same list
+
+-- where a question is answered a plan is held, and its groups are a decomposition of the list
+decomposed : {e : Edition} {table : List Site} {calls : List Call} {replies : List Reply} {s : State} → Exact e table calls replies s
+    → (c : Call) (r : Reply) (s' : State) (q : Request) → c .request ≡ q → Question q → Steps s c r s' → {a : Told} → r .answer ≡ a → Answered a
+    → (gs : List ℕ) × Decomposition (network (modelOf s .list)) gs
+decomposed {e} {calls = calls} {replies = replies} {s = s} x c r s' q k h y a g =
+    let (bytes, l) = some-passed (lastPassed none calls replies) (x .wanting c r s' (subst Question (sym k) h) y) a g in
+    (planOf e (count (modelOf s)) bytes .groups, x .plan-true bytes l .groups)
+
+-- Two stores that hold the same list, of whatever histories: each W, q, w × q and difference that both answer is the same.
+pub same-figures : {e₁ e₂ : Edition} {t₁ t₂ : List Site} {cs₁ cs₂ : List Call} {rs₁ rs₂ : List Reply} {s₁ s₂ : State}
+    → Exact e₁ t₁ cs₁ rs₁ s₁ → Exact e₂ t₂ cs₂ rs₂ s₂ → modelOf s₁ .list ≡ modelOf s₂ .list → SameFigures s₁ s₂
+same-figures {s₁ = s₁} {s₂ = s₂} x y l =
     record {
-      depot = λ c₁ c₂ d r₁ r₂ s₁' s₂' w₁ q₁ w₂ q₂ k₁ k₂ x₁ x₂ a₁ a₂.
-          let f₁ = depot-says m₁ h₁ b₁ c₁ d r₁ s₁' w₁ q₁ k₁ x₁ a₁ in
-          let f₂ = depot-says m₂ h₂ b₂ c₂ d r₂ s₂' w₂ q₂ k₂ x₂ a₂ in
-          (f₁ .0 ∙ ap (λ l. depotLitres (network l) d) l ∙ sym (f₂ .0), f₁ .1 ∙ ap (λ l. depotSize (network l) d) l ∙ sym (f₂ .1));
       site = λ c₁ c₂ i r₁ r₂ s₁' s₂' y₁ w₁ y₂ w₂ k₁ k₂ x₁ x₂ a₁ a₂.
-          site-says m₁ h₁ b₁ c₁ i r₁ s₁' y₁ w₁ k₁ x₁ a₁ .1 ∙ ap (λ l. siteWhole (network l) i) l ∙ sym (site-says m₂ h₂ b₂ c₂ i r₂ s₂' y₂ w₂ k₂ x₂ a₂ .1);
+          let (gs, d) = decomposed x c₁ r₁ s₁' (Share i) k₁ tt x₁ a₁ tt in
+          let (bytes₁, p₁, f₁, g₁) = x .site-figures c₁ i r₁ s₁' y₁ w₁ k₁ x₁ a₁ gs d in
+          let (bytes₂, p₂, f₂, g₂) = y .site-figures c₂ i r₂ s₂' y₂ w₂ k₂ x₂ a₂ gs (over l gs d) in
+          g₁ ∙ ap (λ l. whole (network l) gs i) l ∙ sym g₂;
+      depot = λ c₁ c₂ d r₁ r₂ s₁' s₂' w₁ q₁ w₂ q₂ k₁ k₂ x₁ x₂ a₁ a₂.
+          let (gs, dec) = decomposed x c₁ r₁ s₁' (Depot d) k₁ tt x₁ a₁ tt in
+          let f₁ = x .depot-figures c₁ d r₁ s₁' w₁ q₁ k₁ x₁ a₁ gs dec in
+          let f₂ = y .depot-figures c₂ d r₂ s₂' w₂ q₂ k₂ x₂ a₂ gs (over l gs dec) in
+          (f₁ .0 ∙ ap (λ l. groupLitres (network l) gs (place gs d)) l ∙ sym (f₂ .0), f₁ .1 ∙ ap (λ l. groupSize (network l) gs (place gs d)) l ∙ sym (f₂ .1));
       differences = λ c₁ c₂ a d r₁ r₂ s₁' s₂' z₁ q₁ z₂ q₂ k₁ k₂ x₁ x₂ a₁ a₂.
-          let f₁ = difference-says m₁ h₁ b₁ c₁ a d r₁ s₁' z₁ q₁ k₁ x₁ a₁ in
-          let f₂ = difference-says m₂ h₂ b₂ c₂ a d r₂ s₂' z₂ q₂ k₂ x₂ a₂ in
-          (f₁ .0 ∙ ap (λ l. difference (network l) a d) l ∙ sym (f₂ .0), f₁ .1 ∙ ap (λ l. divisor (network l) a d) l ∙ sym (f₂ .1));
+          let (gs, dec) = decomposed x c₁ r₁ s₁' (Difference a d) k₁ tt x₁ a₁ tt in
+          let f₁ = x .differences c₁ a d r₁ s₁' z₁ q₁ k₁ x₁ a₁ gs dec in
+          let f₂ = y .differences c₂ a d r₂ s₂' z₂ q₂ k₂ x₂ a₂ gs (over l gs dec) in
+          let W : Listing → ℕ → ℕ = λ l x. groupLitres (network l) gs (place gs x) in
+          let Q : Listing → ℕ → ℕ = λ l x. groupSize (network l) gs (place gs x) in
+          (f₁ .0 ∙ ap (λ l. differenceOf (W l a) (Q l a) (W l d) (Q l d)) l ∙ sym (f₂ .0), f₁ .1 ∙ ap (λ l. Q l a * Q l d) l ∙ sym (f₂ .1));
     }
+  where
+    over : {l l' : Listing} → l ≡ l' → (gs : List ℕ) → Decomposition (network l) gs → Decomposition (network l') gs
+    over e gs d = subst (λ (l : Listing). Decomposition (network l) gs) e d

@@ -4,3 +4,4 @@ pub mod Steps
 pub mod OneModel
 pub mod History
 pub mod Examples
+pub mod LastPassed

@@ -23,8 +23,7 @@ use Rattle.records.specs.declared.Edition.{Edition}
 use Rattle.records.specs.Bytes.{Bytes}
 use Rattle.records.specs.Values.{Plan}
 use Rattle.records.specs.Format.{sitesOf, layoutRows, planOf}
-use Rattle.records.specs.Write.{planBytes, onto}
-use Rattle.records.proofs.RoundTrip.{Marked}
+use Rattle.records.specs.Write.{planBytes, onto, Marked}
 use Rattle.store.specs.declared.Request.{Request}
 use Rattle.store.specs.declared.Request.the-variants.{Load, Change, Add, Propose, Share, Depot, Difference, Written}
 use Rattle.store.specs.Calls.{Call, Reply, same, refused, done, shared, loaded, differ, wrote}

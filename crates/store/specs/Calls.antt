@@ -12,7 +12,7 @@ pub record Call : Type 0 where
   pub input : List ℕ
   pub buffer : List ℕ
 
--- What a call answers: "a refusal is its number and no other figure"; success; "a site's s and w × q"; "a depot's W and q"; the difference "with
+-- What a call answers: "A refusal is its number and no other figure"; success; "a site's s and w × q"; "a depot's W and q"; the difference "with
 -- the divisor"; the length written.
 pub data Told : Type 0 where
   refused : ℕ → Told

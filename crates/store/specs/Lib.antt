@@ -3,3 +3,4 @@ pub mod Model
 pub mod State
 pub mod Trace
 pub mod Decide
+pub mod Examples

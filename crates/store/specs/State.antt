@@ -82,7 +82,7 @@ next s store table r = record { after = record { edition = s .edition; store = s
 abbrev pub stays : State → Reply → Done
 stays s r = record { after = s; reply = r }
 
--- What a call does that no row refuses. "Success drops the plan, even if no figure differs, and sets its groups and share places to zero."
+-- What a call does that no row refuses. "success drops the plan, even if no figure differs, and sets its groups and share places to zero."
 -- "Table places beyond the sites keep their content."
 abbrev pub effectOf : State → Call → Request → Done
 effectOf s c Load =

@@ -3,6 +3,7 @@ use mathlib.Core.Path.{_≡_}
 use mathlib.Core.Bool.{Bool, true, false, cond}
 use mathlib.Core.List.{List, [], _∷_}
 use mathlib.Core.Logic.{_↔_}
+use mathlib.Core.Option.{Option, none, some}
 use Prim.Native.Nat.{ℕ, _-_, _*_}
 use lib.IntN.{ℤ}
 use lib.ListN.{length, getD, drop, replicate}
@@ -14,11 +15,13 @@ use Rattle.density.specs.Figures.{differenceOf}
 use Rattle.records.specs.declared.Edition.{Edition}
 use Rattle.records.specs.Bytes.{Bytes}
 use Rattle.records.specs.Values.{Plan}
+use Rattle.records.specs.Format.{planOf}
+use Rattle.records.specs.Write.{onto, All}
 use Rattle.store.specs.declared.Request.{Request}
 use Rattle.store.specs.declared.Request.the-variants.{Load, Change, Add, Propose, Share, Depot, Difference, Written}
 use Rattle.store.specs.Calls.{Call, Reply, Told, refused, done, shared, loaded, differ, wrote}
 use Rattle.judge.specs.Check.{True}
-use Rattle.store.specs.Model.{Model, emptyModel, held, Says}
+use Rattle.store.specs.Model.{Model, emptyModel, count, Says}
 use Rattle.held_state.specs.Held.{State}
 use Rattle.store.specs.State.{modelOf, fresh, step}
 
@@ -40,12 +43,12 @@ History e table calls replies s = Run Steps (fresh e table) calls replies s
 abbrev pub Modelled : Edition → ℕ → List Call → List Reply → Model → Type 0
 Modelled e places calls replies b = Run Says (emptyModel e places) calls replies b
 
--- each call's input is of bytes
+-- each call's input is bytes
 unfoldable pub AllBytes : List Call → Type 0
 AllBytes [] = Unit {0}
 AllBytes (c ∷ cs) = Bytes (c .input) × AllBytes cs
 
--- Was there a proposal that passed since the last load, change or add that succeeded, or since the start? By calls and replies alone.
+-- The bytes of the proposal that passed last, if no load, change or add has succeeded since. By calls and replies alone.
 abbrev pub ended : Told → Bool
 ended done = true
 ended (refused n) = false
@@ -54,20 +57,25 @@ ended (loaded w q) = false
 ended (differ d q) = false
 ended (wrote n) = false
 
-abbrev pub after : Request → Told → Bool → Bool
-after Load a b = cond (ended a) false b
-after (Change i w) a b = cond (ended a) false b
-after (Add f s w) a b = cond (ended a) false b
-after Propose a b = cond (ended a) true b
-after (Share i) a b = b
-after (Depot d) a b = b
-after (Difference d e) a b = b
-after Written a b = b
+abbrev pub leaves : Request → List ℕ → Told → Option (List ℕ) → Option (List ℕ)
+leaves Load s a o = cond (ended a) none o
+leaves (Change i w) s a o = cond (ended a) none o
+leaves (Add f x w) s a o = cond (ended a) none o
+leaves Propose s a o = cond (ended a) (some s) o
+leaves (Share i) s a o = o
+leaves (Depot d) s a o = o
+leaves (Difference d e) s a o = o
+leaves Written s a o = o
 
-unfoldable pub passedSince : Bool → List Call → List Reply → Bool
-passedSince b [] rs = b
-passedSince b (c ∷ cs) [] = b
-passedSince b (c ∷ cs) (r ∷ rs) = passedSince (after (c .request) (r .answer) b) cs rs
+unfoldable pub lastPassed : Option (List ℕ) → List Call → List Reply → Option (List ℕ)
+lastPassed o [] rs = o
+lastPassed o (c ∷ cs) [] = o
+lastPassed o (c ∷ cs) (r ∷ rs) = lastPassed (leaves (c .request) (c .input) (r .answer) o) cs rs
+
+-- the plan that such bytes lay out for a list of n sites
+abbrev pub planFrom : Edition → ℕ → Option (List ℕ) → Option Plan
+planFrom e n none = none
+planFrom e n (some bytes) = some (planOf e n bytes)
 
 -- the calls that row 17 concerns
 abbrev pub Question : Request → Type 0
@@ -88,36 +96,53 @@ pub record Tidy (s : State) : Type 0 where
       → (drop (s .store .grouped) (s .store .groups) ≡ replicate (64 - s .store .grouped) 0)
       × (drop (s .store .count) (s .store .shares) ≡ replicate (512 - s .store .count) 0)
 
--- every element has the property
-unfoldable pub Each {ℓ} : {A : Type ℓ} → (A → Type 0) → List A → Type 0
-Each P [] = Unit {0}
-Each P (x ∷ xs) = P x × Each P xs
-
--- Demand 3, of one history: "in every history each answer, and each byte of a buffer lent for it, is as the book has it, and the list held and
+-- Demand 3, of one history: "in every history each answer, and each byte of a buffer lent for it, is as the book has it, and that the list held and
 -- the plan held, or the lack of one, are then the book's".
 pub record Exact (e : Edition) (table : List Site) (calls : List Call) (replies : List Reply) (s : State) : Type 0 where
   -- the replies, the list and the plan are the model's, and no other replies are
   pub model : Modelled e (length table) calls replies (modelOf s)
   pub only : (rs : List Reply) (b : Model) → Modelled e (length table) calls rs b → (rs ≡ replies) × (b ≡ modelOf s)
   -- "Row 0 is never its answer"
-  pub never-zero : Each (λ (r : Reply). r .answer ≡ refused 0 → ⊥) replies
+  pub never-zero : All (λ (r : Reply). r .answer ≡ refused 0 → ⊥) replies
   -- places beyond what is held are zero, and the table keeps its length
   pub tidy : Tidy s
   pub sized : length (s .table) ≡ length table
-  -- a question is refused for want of a plan exactly if no proposal has passed since the last load, change or add that succeeded
-  pub wanting : (c : Call) (r : Reply) (s' : State) → Question (c .request) → Steps s c r s' → (r .answer ≡ refused 17) ↔ (passedSince false calls replies ≡ false)
+  -- "the plan held, or the lack of one, are then the book's": it is that of the proposal that passed last, and is true of the list held
+  pub plan-held : modelOf s .plan ≡ planFrom e (count (modelOf s)) (lastPassed none calls replies)
+  pub plan-true : (bytes : List ℕ) → lastPassed none calls replies ≡ some bytes → True e (modelOf s .list) (planOf e (count (modelOf s)) bytes) bytes
+  -- "row 17 if the book has no plan": exactly if no proposal has passed since the last load, change or add that succeeded
+  pub wanting : (c : Call) (r : Reply) (s' : State) → Question (c .request) → Steps s c r s' → (r .answer ≡ refused 17) ↔ (lastPassed none calls replies ≡ none)
   -- a proposal passes exactly if its plan is true of the list then held
   pub gate : (c : Call) (r : Reply) (s' : State) → c .request ≡ Propose → Bytes (c .input) → Steps s c r s'
       → (r .answer ≡ done) ↔ ((p : Plan) × True e (modelOf s .list) p (c .input))
-  -- each W, q, w × q and difference is that of the decomposition of the list held, and s is that of the plan held
+  -- "Otherwise s is read from the book's plan", which is that of the proposal that passed last; each W, q, w × q and difference is that of the
+  -- decomposition of the list held
+  pub site-figures : (c : Call) (i : ℕ) (r : Reply) (s' : State) (x w : ℕ) → c .request ≡ Share i → Steps s c r s' → r .answer ≡ shared x w
+      → (gs : List ℕ) → Decomposition (network (modelOf s .list)) gs
+      → (bytes : List ℕ)
+      × (lastPassed none calls replies ≡ some bytes)
+      × (x ≡ getD (planOf e (count (modelOf s)) bytes .shares) i 0)
+      × (w ≡ whole (network (modelOf s .list)) gs i)
   pub depot-figures : (c : Call) (d : ℕ) (r : Reply) (s' : State) (w q : ℕ) → c .request ≡ Depot d → Steps s c r s' → r .answer ≡ loaded w q
       → (gs : List ℕ) → Decomposition (network (modelOf s .list)) gs
       → (w ≡ groupLitres (network (modelOf s .list)) gs (place gs d)) × (q ≡ groupSize (network (modelOf s .list)) gs (place gs d))
-  pub site-figures : (c : Call) (i : ℕ) (r : Reply) (s' : State) (x w : ℕ) → c .request ≡ Share i → Steps s c r s' → r .answer ≡ shared x w
-      → (gs : List ℕ) → Decomposition (network (modelOf s .list)) gs
-      → (x ≡ getD (held (modelOf s .plan) .shares) i 0) × (w ≡ whole (network (modelOf s .list)) gs i)
   pub differences : (c : Call) (a d : ℕ) (r : Reply) (s' : State) (z : ℤ) (q : ℕ) → c .request ≡ Difference a d → Steps s c r s' → r .answer ≡ differ z q
       → (gs : List ℕ) → Decomposition (network (modelOf s .list)) gs
       → let W : ℕ → ℕ = λ x. groupLitres (network (modelOf s .list)) gs (place gs x) in
       let Q : ℕ → ℕ = λ x. groupSize (network (modelOf s .list)) gs (place gs x) in
       (z ≡ differenceOf (W a) (Q a) (W d) (Q d)) × (q ≡ Q a * Q d)
+  -- "Written out, the book's plan stands at the front of the buffer byte for byte, the rest of the buffer is unchanged, and the answer is the
+  -- plan's length"
+  pub written-out : (c : Call) (r : Reply) (s' : State) (n : ℕ) → c .request ≡ Written → Steps s c r s' → r .answer ≡ wrote n
+      → (bytes : List ℕ) × (lastPassed none calls replies ≡ some bytes) × (n ≡ length bytes) × (r .buffer ≡ onto bytes (c .buffer))
+
+-- "Two desks hold the same list if their books' lists are equal": each W, q, w × q and difference that both answer is then the same, whatever their
+-- histories; s is that of each one's plan.
+pub record SameFigures (s₁ s₂ : State) : Type 0 where
+  pub site : (c₁ c₂ : Call) (i : ℕ) (r₁ r₂ : Reply) (s₁' s₂' : State) (x₁ w₁ x₂ w₂ : ℕ) → c₁ .request ≡ Share i → c₂ .request ≡ Share i
+      → Steps s₁ c₁ r₁ s₁' → Steps s₂ c₂ r₂ s₂' → r₁ .answer ≡ shared x₁ w₁ → r₂ .answer ≡ shared x₂ w₂ → w₁ ≡ w₂
+  pub depot : (c₁ c₂ : Call) (d : ℕ) (r₁ r₂ : Reply) (s₁' s₂' : State) (w₁ q₁ w₂ q₂ : ℕ) → c₁ .request ≡ Depot d → c₂ .request ≡ Depot d
+      → Steps s₁ c₁ r₁ s₁' → Steps s₂ c₂ r₂ s₂' → r₁ .answer ≡ loaded w₁ q₁ → r₂ .answer ≡ loaded w₂ q₂ → (w₁ ≡ w₂) × (q₁ ≡ q₂)
+  pub differences : (c₁ c₂ : Call) (a d : ℕ) (r₁ r₂ : Reply) (s₁' s₂' : State) (z₁ : ℤ) (q₁ : ℕ) (z₂ : ℤ) (q₂ : ℕ) → c₁ .request ≡ Difference a d
+      → c₂ .request ≡ Difference a d → Steps s₁ c₁ r₁ s₁' → Steps s₂ c₂ r₂ s₂' → r₁ .answer ≡ differ z₁ q₁ → r₂ .answer ≡ differ z₂ q₂
+      → (z₁ ≡ z₂) × (q₁ ≡ q₂)

@@ -1,7 +1,7 @@
 -- Laws of the widths: narrow and wide sites are the same values; and loops that take a function of each of 512 elements. Assumes nothing.
 use mathlib.Core.Path.{_≡_, refl, sym, ap, subst, _∙_}
 use mathlib.Core.List.{List, [], _∷_, map}
-use Prim.Native.Nat.{ℕ, zero, suc, _+_, _≤_, _<_, _^_, suc-le-suc}
+use Prim.Native.Nat.{ℕ, zero, suc, _+_, _≤_, _<_, _^_}
 use native.Mathlib.Nat.{le-of-suc-le-suc, not-suc-le-zero}
 use native.Mathlib.Omega.{arith}
 use lib.ListN.{length, getD, set, replicate, length-map, List·getD-map}
@@ -15,16 +15,10 @@ use Rattle.density.specs.Network.{noSite}
 use Rattle.table.specs.declared.Site1.{Site1}
 use Rattle.table.specs.Table.{overlay, blank}
 use Rattle.table.specs.Widths.{noSite1, widened, narrowed, LitresFit}
-use Rattle.table.proofs.Overlay.{map-overlay, blank-is, blank-length, overlay-none, overlay-next, overlay-all}
+use Rattle.table.proofs.Overlay.{blank-is, blank-length, overlay-none, overlay-next, overlay-all}
 use Rattle.table.proofs.Site1 as T
 use Rattle.table.proofs.Site1.Laws as T′
 use Rattle.table.proofs.Sites1.{S}
-
-pub narrowed-widened : (s : Site1) → narrowed (widened s) ≡ s
-narrowed-widened s = refl
-
-pub widened-narrowed : (s : Site) → widened (narrowed s) ≡ s
-widened-narrowed s = refl
 
 pub all-narrowed-widened : (l : List Site1) → map narrowed (map widened l) ≡ l
 all-narrowed-widened [] = refl
@@ -43,21 +37,9 @@ narrowed-at l i = List·getD-map narrowed l i noSite
 pub widened-injective : (l m : List Site1) → map widened l ≡ map widened m → l ≡ m
 widened-injective l m e = sym (all-narrowed-widened l) ∙ ap (map narrowed) e ∙ all-narrowed-widened m
 
--- what is stored narrow is, seen wide, the wide sites over the table
-pub widened-overlay : (n : ℕ) (sites : List Site) (table : List Site1) → map widened (overlay n (map narrowed sites) table) ≡ overlay n sites (map widened table)
-widened-overlay n sites table = map-overlay widened n (map narrowed sites) table ∙ ap (λ (r : List Site). overlay n r (map widened table)) (all-widened-narrowed sites)
-
 pub fit-at : (l : List Site) → LitresFit l → (i : ℕ) → i < length l → getD l i noSite .litres < 2 ^ 16
 unfolding LitresFit
 fit-at l h = h
-
-pub fit-set : (l : List Site) (i : ℕ) (s : Site) → LitresFit l → s .litres < 2 ^ 16 → LitresFit (set l i s)
-unfolding LitresFit
-fit-set [] i s h b j m = h j m
-fit-set (t ∷ l) zero s h b zero m = b
-fit-set (t ∷ l) zero s h b (suc j) m = h (suc j) m
-fit-set (t ∷ l) (suc i) s h b zero m = h zero (omega arith)
-fit-set (t ∷ l) (suc i) s h b (suc j) m = fit-set l i s (λ k o. h (suc k) (suc-le-suc o)) b j (le-of-suc-le-suc m)
 
 -- after i turns of a loop over 512 elements: f of the first i stands in front, and blank places after them
 pub record Mapped {X Y : Type 0} (f : X → Y) (y : Y) (l : List X) (a : List Y) (i : ℕ) : Type 0 where

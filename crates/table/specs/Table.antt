@@ -8,6 +8,10 @@ use lib.ListN.{length, take, drop, replicate}
 unfoldable pub overlay : {X : Type 0} → ℕ → List X → List X → List X
 overlay n sites table = take n sites ++ drop n table
 
+-- the places from one up to another, excluded, take the sites there, the others keep what they have
+abbrev pub between : {X : Type 0} → ℕ → ℕ → List X → List X → List X
+between from to sites table = overlay to (overlay from table sites) table
+
 -- 512 places with the same content
 unfoldable pub blank : {X : Type 0} → X → List X
 blank x = replicate 512 x

@@ -4,7 +4,7 @@ ghost use mathlib.Core.Path.{_≡_};
 ghost use mathlib.Core.List.{map};
 ghost use Prim.Native.Nat.{_<_, _≤_, min};
 ghost use lib.ListN.{length, getD, set};
-ghost use Rattle.table.specs.Table.{overlay, heldOf};
+ghost use Rattle.table.specs.Table.{between, heldOf};
 ghost use Rattle.table.specs.Widths.{noSite1, widened, LitresFit};
 use density::Site;
 
@@ -33,20 +33,6 @@ pub fn put_site1(table: &mut [Site1], i: usize, s: Site1)
     table[i] = s;
 }
 
-// The number of places.
-pub fn places1(table: &[Site1]) -> usize
-    ensures { λ r. ⌜ r ≡ length (now (table .entry)) ⌝ }
-{
-    table.len()
-}
-
-// The same of a table lent for changes.
-pub fn places_mut1(table: &mut [Site1]) -> usize
-    ensures { λ r. ⌜ (r ≡ length (now (table .entry))) × (now (table .exit) ≡ now (table .entry)) ⌝ }
-{
-    table.len()
-}
-
 // How many sites a table of so many places can hold: at most 512.
 pub fn capacity(places: usize) -> usize
     ensures { λ r. ⌜ r ≡ min places 512 ⌝ }
@@ -66,20 +52,20 @@ pub fn held1(table: &[Site1]) -> [Site1; 512]
     }; 512];
     let mut i = 0;
     while i < count {
-        a[i] = table[i];
+        a[i] = site_at1(table, i);
         i += 1;
     }
     a
 }
 
-// Copy out: the first n sites go to the table. Its other places keep their content.
-pub fn store1(table: &mut [Site1], sites: [Site1; 512], n: usize)
-    requires { ⌜ (n ≤ 512) × (n ≤ length (now table)) ⌝ }
-    ensures { λ _. ⌜ now (table .exit) ≡ overlay n sites (now (table .entry)) ⌝ }
+// Copy out: the sites from one place up to another go to the table, one by one. Its other places keep their content.
+pub fn store1(table: &mut [Site1], sites: [Site1; 512], from: usize, to: usize)
+    requires { ⌜ (from ≤ to) × (to ≤ 512) × (to ≤ length (now table)) ⌝ }
+    ensures { λ _. ⌜ now (table .exit) ≡ between from to sites (now (table .entry)) ⌝ }
 {
-    let mut i = 0;
-    while i < n {
-        table[i] = sites[i];
+    let mut i = from;
+    while i < to {
+        put_site1(table, i, sites[i]);
         i += 1;
     }
 }

@@ -84,7 +84,8 @@ abbrev pub partOf : ListArray → List ℕ → List ℕ → ℕ → ℕ → ℕ
 partOf list shares wholes d i =
     when (eqb (getD (list .sites) i noSite .first) d) (getD shares i 0) + when (eqb (getD (list .sites) i noSite .second) d) (getD wholes i 0 - getD shares i 0)
 
--- shares that are at most w × q
+-- shares that are at most w × q. q is at most 576, which is 9 × 64: sizes are over crews (`Network` in `density/specs`), up to 9 at a depot, as a later
+-- request needs; document 01 has one crew each and so q up to 64.
 pub record Parts (list : ListArray) (shares wholes : List ℕ) : Type 0 where
   pub sites : list .count ≤ 512
   pub lengths : (length shares ≡ 512) × (length wholes ≡ 512)
@@ -130,7 +131,7 @@ pub record Entry (N : Network) (gs ss : List ℕ) (i : ℕ) (s : Site) (first se
   pub whole : whole N gs i ≡ all
   pub share : firstShare ss i ≡ part
 
--- what W and q are at most, so that no product overflows
+-- what W and q (over crews, as in `Parts`) are at most, so that no product overflows
 pub record Small (litres sizes : List ℕ) (n : ℕ) : Type 0 where
   pub count : n ≤ 64
   pub lengths : (length litres ≡ 64) × (length sizes ≡ 64)

@@ -123,7 +123,7 @@ pub fn litres_of(s: Site) -> u64
     s.litres as u64
 }
 
-// w × q of a site.
+// w × q of a site, for q up to 576, over crews (`Parts` in `specs/Tables.antt`).
 pub fn whole(s: Site, places: &[u8], sizes: &[u64]) -> u64
     requires { ⌜ (s .first < 64) × (s .second < 64) × (length (now places) ≡ 64) × (length (now sizes) ≡ 64) ⌝ }
     requires { ⌜ (max (getD (now places) (s .first) 0) (getD (now places) (s .second) 0) < 64) × (getD (now sizes) (max (getD (now places) (s .first) 0) (getD (now places) (s .second) 0)) 0 ≤ 576) ⌝ }

@@ -35,9 +35,10 @@ same-length c = search needs
 returns : tie.Need-returns
 returns c =
     let s = c .before .before .before .before .before .before in
+    let w = s .before .before in
     let a = c .before .before .before .before .before .before .before .before .before .before .before .before .before .before .args in
-    widened-serves (a .store) (a .sites) (a .places) (a .request) (a .input .now) (a .buffer .now) _ (s .before .before .edition1 .ensures) (s .before .before .before .before .before .widen-store .ensures)
-    (s .before .before .before .before .widen-all .ensures) (s .before .before .before .widen-request .ensures) (λ i. s .before .before .before .before .before .before .before .shared-slice-known .given i .fits) (s .serve .ensures) (c .before .narrow-store .ensures)
+    widened-serves (a .store) (a .sites) (a .places) (a .request) (a .input .now) (a .buffer .now) _ (w .edition1 .ensures) (w .before .before .before .widen-store .ensures)
+    (w .before .before .widen-all .ensures) (w .before .widen-request .ensures) (s .serve .ensures) (c .before .narrow-store .ensures)
     (c .narrow-first .ensures)
 
 pub serve1-spec : {M : Type 1} → statement M

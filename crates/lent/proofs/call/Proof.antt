@@ -8,8 +8,9 @@ use Rattle.lent.proofs.call.Tie as tie
 
 returns : tie.Need-returns
 returns c =
-    let a = c .before .before .before .before .before .args in
-    unsized (a .store .now) (a .table .now) (a .request) (a .input .now) (a .buffer .now) (c .if1 .taken)
+    let b = c .before .before in
+    let a = b .before .before .before .args in
+    unsized (a .store .now) (a .table .now) (a .request) (a .input .now) (a .buffer .now) (c .if1 .taken) (λ i. b .shared-slice-known .given i .fits)
 
 store-in-requires : tie.Need-store-in-requires
 store-in-requires c κs = search needs
@@ -34,13 +35,18 @@ same-length-3 c = search needs
 
 returns-2 : tie.Need-returns-2
 returns-2 c =
-    let a = c .before .before .before .before .before .before .before .before .before .before .before .before .before .before .before .args in
-    keeps (a .store .now) (a .table .now) (a .request) (a .input .now) (a .buffer .now) (c .before .before .before .before .before .before .before .before .before .before .if1 .left)
-    (c .before .before .before .before .before .before .before .before .store-in .ensures) (c .before .before .before .before .before .before .sites-in .ensures) (c .before .before .before .before .serve1 .ensures) (sym (c .before .is-kept .ensures) ∙ c .if2 .taken)
+    let s = c .before .before .before .before in
+    let t = s .before .before in
+    let z = t .before .before in
+    let l = z .before .before in
+    let a = l .before .before .before .before .before .args in
+    keeps (a .store .now) (a .table .now) (a .request) (a .input .now) (a .buffer .now) (l .if1 .left) (z .store-in .ensures) (t .sites-in .ensures)
+    (s .serve1 .ensures) (sym (c .before .is-kept .ensures) ∙ c .if2 .taken)
 
 put-sites-requires : tie.Need-put-sites-requires
 put-sites-requires c κs =
-    let v = c .before .before .before .before .before .before .before .serve1 .ensures in
+    let s = c .before .before .before .before .before .before .before in
+    let v = s .serve1 .ensures .1 in
     (v .few, omega (arith, v .room))
 
 put-store-requires : tie.Need-put-store-requires
@@ -57,10 +63,18 @@ same-length-6 c = search needs
 
 returns-3 : tie.Need-returns-3
 returns-3 c =
-    let a = c .before .before .before .before .before .before .before .before .before .before .before .before .before .before .before .before .before .before .before .before .before .before .before .before .before .args in
-    puts (a .store .now) (a .table .now) (a .request) (a .input .now) (a .buffer .now) (c .before .before .before .before .before .before .before .before .before .before .before .before .before .before .before .before .before .before .before .before .if1 .left)
-    (c .before .before .before .before .before .before .before .before .before .before .before .before .before .before .before .before .before .before .store-in .ensures) (c .before .before .before .before .before .before .before .before .before .before .before .before .before .before .before .before .sites-in .ensures) (c .before .before .before .before .before .before .before .before .before .before .before .before .before .before .serve1 .ensures) (sym (c .before .before .before .before .before .before .before .before .before .before .before .is-kept .ensures) ∙ c .before .before .before .before .before .before .before .before .before .before .if2 .left)
-    (λ i. c .before .before .before .before .before .before .before .before .before .before .before .before .before .before .before .before .before .before .before .before .before .before .before .slice-known2 .given i .fits) (c .before .before .before .before .before .before .put-sites .ensures) (c .before .before .put-store .ensures) (c .before .before .put-store .kept .0)
+    let p = c .before .before in
+    let q = p .before .before .before .before in
+    let k = q .before .before .before .before in
+    let s = k .before .before .before .before in
+    let t = s .before .before in
+    let z = t .before .before in
+    let l = z .before .before in
+    let b = l .before .before .before in
+    let a = b .before .before .args in
+    puts (a .store .now) (a .table .now) (a .request) (a .input .now) (a .buffer .now) (l .if1 .left) (z .store-in .ensures) (t .sites-in .ensures)
+    (s .serve1 .ensures) (sym (k .before .is-kept .ensures) ∙ k .if2 .left) (λ i. b .slice-known2 .given i .fits) (q .put-sites .ensures)
+    (p .put-store .ensures) (p .put-store .kept .0)
 
 pub call-spec : {M : Type 1} → statement M
 call-spec =

@@ -16,33 +16,45 @@ enum-known-answer c = search needs
 enum-told : tie.Need-enum-told
 enum-told c = search needs
 
-hand-on-requires : tie.Need-hand-on-requires
-hand-on-requires c κs = search needs
+row-of-requires : tie.Need-row-of-requires
+row-of-requires c κs = (c .enum-told .given .0 .0, c .enum-told .given .1)
 
 returns : tie.Need-returns
 returns c =
     let a = c .before .before .before .before .before .before .args in
-    let row = c .before .enum-told .given in
-    refusal-made (a .e) (now (a .list)) (c .before .before .before .read .result) (row .0 .0) (now (a .out)) (c .hand-on .result) (c .before .before .before .read .ensures) (row .1) (c .hand-on .ensures (row .0 .0) (row .1))
+    let list = c .before .before .before .read in
+    refusal-made (a .e) (now (a .list)) (list .result) (c .row-of .result) (now (a .out)) (list .ensures) (c .row-of .ensures)
 
 make-plan-requires : tie.Need-make-plan-requires
 make-plan-requires c κs =
-    let a = c .before .before .before .before .before .before .before .args in
-    in-range (a .e) (now (a .list)) (c .before .before .before .before .read .result) (c .before .before .answer .given .0 .0) (c .before .before .before .before .read .ensures) (c .before .before .answer .given .1)
+    let list = c .before .before .before .before in
+    let a = list .before .before .before .args in
+    let counts = c .before .before .answer .given in
+    in-range (a .e) (now (a .list)) (list .read .result) (counts .0 .0) (list .read .ensures) (counts .1)
 
 plan-requires : tie.Need-plan-requires
 plan-requires c κs =
-    let a = c .before .before .before .before .before .before .before .before .before .args in
+    let counted = c .before .before .before .before in
+    let list = counted .before .before in
+    let entry = list .before .before .before in
+    let a = entry .args in
+    let counts = counted .answer .given in
     let plan : Planned _ _ = c .before .make-plan .ensures in
-    (c .before .before .before .before .before .before .before .before .before .pre .1, plan .few, omega (arith, few-sites (a .e) (now (a .list)) (c .before .before .before .before .before .before .read .result) (c .before .before .before .before .answer .given .0 .0) (c .before .before .before .before .before .before .read .ensures) (c .before .before .before .before .answer .given .1)))
+    (entry .pre .1, plan .few, omega (arith, few-sites (a .e) (now (a .list)) (list .read .result) (counts .0 .0) (list .read .ensures) (counts .1)))
 
 same-length : tie.Need-same-length
 same-length c = search needs
 
 returns-2 : tie.Need-returns-2
 returns-2 c =
-    let a = c .before .before .before .before .before .before .before .before .before .before .before .before .args in
-    made (a .e) (now (a .list)) (c .before .before .before .before .before .before .before .before .before .read .result) (c .before .before .before .before .before .before .before .answer .given .0 .0) (c .before .before .before .before .before .before .before .before .before .read .ensures) (c .before .before .before .before .before .before .before .answer .given .1) (c .before .before .before .before .make-plan .result) (now (a .out)) _ _ (c .before .before .before .before .before .before .before .before .before .before .before .before .pre .2) (λ i. c .before .before .before .before .before .before .before .before .before .before .before .shared-slice-known .given i .fits) (c .before .before .before .before .make-plan .ensures) (c .before .before .plan .ensures)
+    let plan = c .before .before .before .before in
+    let counted = plan .before .before .before in
+    let list = counted .before .before in
+    let known = list .before .before in
+    let entry = known .before in
+    let a = entry .args in
+    let counts = counted .answer .given in
+    made (a .e) (now (a .list)) (list .read .result) (counts .0 .0) (list .read .ensures) (counts .1) (plan .make-plan .result) (now (a .out)) _ _ (entry .pre .2) (λ i. known .shared-slice-known .given i .fits) (plan .make-plan .ensures) (c .before .before .plan .ensures)
 
 pub make-by-spec : {M : Type 1} → statement M
 make-by-spec =
@@ -51,7 +63,7 @@ make-by-spec =
     read-requires
     enum-known-answer
     enum-told
-    hand-on-requires
+    row-of-requires
     returns
     make-plan-requires
     plan-requires

@@ -1,6 +1,7 @@
 -- `readers::list::read` meets its contract. Where the first k rows have been tried and do not apply, what `readList` says is what is left of its rows; at each return the next row applies.
 -- Assumes nothing.
 use Prim.Native.Nat.{ℕ}
+use mathlib.Core.Bool.{false}
 use mathlib.Core.Path.{_≡_, _∙_, ap, sym}
 use native.Mathlib.Omega.{arith}
 use lib.ListN.{length, drop, length-map}
@@ -29,22 +30,35 @@ start c = c .before .before .before .before .before
 headed : (c : tie.After-known-told) → ListHeaded (start c .args .e) (start c .args .places) (now (start c .args .s)) (c .before .n .given .0 .0)
 headed c = list-headed _ _ _ (sym (c .before .n .given .1) ∙ c .before .before .before .head .ensures)
 
-found : (c : tie.After-sites) → c .sites .result ≡ sitesRead (start (c .before) .args .e) (siteCount (now (start (c .before) .args .s))) (now (start (c .before) .args .s))
+abbrev found-in : tie.After-sites → SitesRead
+found-in c = sitesRead (start (c .before) .args .e) (siteCount (now (start (c .before) .args .s))) (now (start (c .before) .args .s))
+
+found : (c : tie.After-sites) → c .sites .result ≡ found-in c
 found c =
     let a = start (c .before) .args in
     c .sites .ensures ∙ ap (λ (n : ℕ). sitesRead (a .e) n (now (a .s))) (sym (headed (c .before) .count))
 
+-- no mark is wrong, no depot above 63, no litres 0
+marks-right : (c : tie.Else1) → found-in (c .before) .marks ≡ false
+marks-right c = sym (ap (λ (x : SitesRead). x .marks) (found (c .before))) ∙ c .if1 .left
+
+depots-right : (c : tie.Else2) → found-in (c .before .before) .depots ≡ false
+depots-right c = sym (ap (λ (x : SitesRead). x .depots) (found (c .before .before))) ∙ c .if2 .left
+
+litres-right : (c : tie.Else3) → found-in (c .before .before .before) .litres ≡ false
+litres-right c = sym (ap (λ (x : SitesRead). x .litres) (found (c .before .before .before))) ∙ c .if3 .left
+
 past4 : (c : tie.Else1) → Past 4 (start (c .before .before))
 unfolding firstRow
-past4 c = headed (c .before .before) .rest ∙ rw (← (ap (λ (x : SitesRead). x .marks) (found (c .before))), c .if1 .left)
+past4 c = headed (c .before .before) .rest ∙ rw (marks-right c)
 
 past5 : (c : tie.Else2) → Past 5 (start (c .before .before .before))
 unfolding firstRow
-past5 c = past4 (c .before) ∙ rw (← (ap (λ (x : SitesRead). x .depots) (found (c .before .before))), c .if2 .left)
+past5 c = past4 (c .before) ∙ rw (depots-right c)
 
 past6 : (c : tie.Else3) → Past 6 (start (c .before .before .before .before))
 unfolding firstRow
-past6 c = past5 (c .before) ∙ rw (← (ap (λ (x : SitesRead). x .litres) (found (c .before .before .before))), c .if3 .left)
+past6 c = past5 (c .before) ∙ rw (litres-right c)
 
 head-requires : tie.Need-head-requires
 head-requires c κs = search needs

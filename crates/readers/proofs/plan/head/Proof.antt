@@ -22,7 +22,7 @@ start c = c .before .before .before .before .before .before
 
 -- what the record says
 said : (c : tie.After-struct-known) → (5 ≤ length (now (start c .args .s))) × (c .before .before .mark .given .0 .0 ≡ field (now (start c .args .s)) 0 2) × (c .before .before .mark .given .0 .1 .0 ≡ field (now (start c .args .s)) 2 3)
-said c = step-read (now (start c .args .s)) 0 3 (sym (c .before .before .mark .given .1) ∙ c .before .before .before .before .read-at .ensures)
+said c = step-read (now (start c .args .s)) 0 3 (sym (c .before .before .mark .given .1) ∙ c .before .before .before .before .step-at .ensures)
 
 bytes : (c : tie.After-struct-known) → Bytes (now (start c .args .s))
 bytes c i = c .before .before .before .before .before .shared-slice-known .given i .fits
@@ -47,15 +47,19 @@ past2 : (c : tie.Else2) → Past 2 (start (c .before .before))
 unfolding firstRow
 past2 c = past1 (c .before) ∙ rw (← (groups (c .before .before)), le-ltb _ _ (c .if2 .left))
 
+-- the plan's site count is the list's
+same-sites : (c : tie.Else3) → field (now (start (c .before .before .before) .args .s)) 3 2 ≡ start (c .before .before .before) .args .sites
+same-sites c = sym (sites (c .before .before .before)) ∙ c .if3 .left
+
 past3 : (c : tie.Else3) → Past 3 (start (c .before .before .before))
 unfolding firstRow
-past3 c = past2 (c .before) ∙ rw (← (sites (c .before .before .before)), eq-eqb _ _ (c .if3 .left))
+past3 c = past2 (c .before) ∙ rw (eq-eqb _ _ (same-sites c))
 
 small : (c : tie.After-struct-known2) → (2 + start (c .before .before .before .before) .args .e .share) * start (c .before .before .before .before) .args .sites ≤ 10 * start (c .before .before .before .before) .args .sites
 small c = mul-le-mul-right (start (c .before .before .before .before) .args .sites) (omega arith)
 
-read-at-requires : tie.Need-read-at-requires
-read-at-requires c κs = search needs
+step-at-requires : tie.Need-step-at-requires
+step-at-requires c κs = search needs
 
 enum-known-mark : tie.Need-enum-known-mark
 enum-known-mark c = search needs
@@ -65,7 +69,7 @@ enum-told c = search needs
 
 returns : tie.Need-returns
 unfolding firstRow
-returns c = rw (lt-ltb _ _ (step-end (now (c .before .before .before .before .args .s)) 0 3 (omega arith) (sym (c .enum-told .given .1) ∙ c .before .before .read-at .ensures)))
+returns c = rw (lt-ltb _ _ (step-end (now (c .before .before .before .before .args .s)) 0 3 (omega arith) (sym (c .enum-told .given .1) ∙ c .before .before .step-at .ensures)))
 
 returns-2 : tie.Need-returns-2
 unfolding firstRow
@@ -106,7 +110,7 @@ pub head-spec : {M : Type 1} → statement M
 head-spec =
     tie.close
     (tie.spec
-    read-at-requires
+    step-at-requires
     enum-known-mark
     enum-told
     returns

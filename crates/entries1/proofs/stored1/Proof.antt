@@ -1,0 +1,63 @@
+-- `entries1::stored1` meets its contract. Assumes nothing.
+use mathlib.Core.Path.{_≡_, refl, sym, ap, _∙_}
+use mathlib.Core.List.{[], _∷_}
+use Prim.Native.Nat.{ℕ}
+use types.Run.{OneOf, miss}
+use denote.Enum.Declared.{tagOf}
+use borrow.Author.Needs.{needs}
+use Rattle.edition1.specs.declared.Request1.{Request1}
+use Rattle.edition1.specs.declared.Request1.the-variants.{Load, Change, Add, Propose, Share, Depot, Difference, Written}
+use Rattle.edition1.proofs.Request1.{the-type}
+use Rattle.entries1.specs.Stored.{none, storedOf}
+use Rattle.entries1.proofs.stored1.Statement.{statement}
+use Rattle.entries1.proofs.stored1.Tie as tie
+
+-- the requests behind the third
+others : (q : Request1) (count n : ℕ) → OneOf (3 ∷ 4 ∷ 5 ∷ 6 ∷ 7 ∷ []) (tagOf the-type q) → none ≡ storedOf q count n
+others Load count n h = absurd (miss (3 ∷ 4 ∷ 5 ∷ 6 ∷ 7 ∷ []) 0 tt h)
+others (Change i w) count n h = absurd (miss (3 ∷ 4 ∷ 5 ∷ 6 ∷ 7 ∷ []) 1 tt h)
+others (Add f s w) count n h = absurd (miss (3 ∷ 4 ∷ 5 ∷ 6 ∷ 7 ∷ []) 2 tt h)
+others Propose count n h = refl
+others (Share i) count n h = refl
+others (Depot d) count n h = refl
+others (Difference a b) count n h = refl
+others Written count n h = refl
+
+enum-told : tie.Need-enum-told
+enum-told c = search needs
+
+enum-known-request : tie.Need-enum-known-request
+enum-known-request c = search needs
+
+one-requires : tie.Need-one-requires
+one-requires c κs = search needs
+
+enum-told-2 : tie.Need-enum-told-2
+enum-told-2 c = search needs
+
+one-requires-2 : tie.Need-one-requires-2
+one-requires-2 c κs = search needs
+
+returns : tie.Need-returns
+returns c =
+    let a = c .before .before .args in
+    sym (ap (λ (q : Request1). storedOf q (a .count) (a .n)) (c .enum-told .given .1))
+
+returns-2 : tie.Need-returns-2
+returns-2 c =
+    let a = c .before .before .before .before .args in
+    c .one .ensures ∙ sym (ap (λ (q : Request1). storedOf q (a .count) (a .n)) (c .before .before .request .given .1))
+
+returns-3 : tie.Need-returns-3
+returns-3 c =
+    let a = c .before .before .before .args in
+    c .one2 .ensures ∙ sym (ap (λ (q : Request1). storedOf q (a .count) (a .n)) (c .before .enum-told2 .given .1))
+
+returns-4 : tie.Need-returns-4
+returns-4 c =
+    let a = c .before .args in
+    others (a .request) (a .count) (a .n) (c .match .keys4)
+
+pub stored1-spec : {M : Type 1} → statement M
+stored1-spec =
+    tie.close (tie.spec enum-told enum-known-request one-requires enum-told-2 one-requires-2 returns returns-2 returns-3 returns-4)

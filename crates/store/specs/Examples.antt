@@ -1,0 +1,166 @@
+-- Document 01: histories of T, of two own sites of 4 and of two sites of one pair on a table of two places, with their replies, the rows of every call
+-- among them.
+use mathlib.Core.List.{List, [], _∷_, _++_}
+use mathlib.Core.Option.{Option, none, some}
+use Prim.Native.Nat.{ℕ}
+use lib.IntN.{pos}
+use lib.ListN.{getD, replicate}
+use Rattle.density.specs.declared.Site.{Site}
+use Rattle.density.specs.Network.{Listing}
+use Rattle.density.specs.Examples.{pair, own}
+use Rattle.records.specs.Values.{Plan}
+use Rattle.records.specs.Format.{edition1}
+use Rattle.records.specs.Samples.{listT}
+use Rattle.judge.specs.Refusals.{group, share}
+use Rattle.store.specs.declared.Request.{Request}
+use Rattle.store.specs.declared.Request.the-variants.{Load, Change, Add, Propose, Share, Depot, Difference, Written}
+use Rattle.store.specs.Calls.{Call, Reply, Told, refused, done, shared, loaded, differ, wrote}
+use Rattle.store.specs.Model.{Model}
+
+abbrev pub call : Request → List ℕ → List ℕ → Call
+call q i o = record { request = q; input = i; buffer = o }
+
+abbrev pub reply : Told → List ℕ → Reply
+reply a o = record { answer = a; buffer = o }
+
+abbrev pub model : List Site → Option Plan → Model
+model l p = record { edition = edition1; places = 2; list = record { sites = l }; plan = p }
+
+-- ---- T: its list, its plan, and the same with s = 11, where both shares add up to the whole and are not level
+
+abbrev pub plansT : ℕ → List ℕ
+plansT x = 0x50 ∷ 0x4C ∷ 0x01 ∷ 0x01 ∷ 0x00 ∷ group 0x03 (share x [])
+
+abbrev pub callsT : List Call
+callsT =
+    call Load listT []
+    ∷ call Propose (plansT 0x0A) []
+    ∷ call (Share 0) [] []
+    ∷ call (Depot 0) [] []
+    ∷ call (Difference 0 1) [] []
+    ∷ call Written [] (replicate 22 7)
+    ∷ call Propose (plansT 0x0B) []
+    ∷ call (Depot 1) [] []
+    ∷ []
+
+abbrev pub repliesT : List Reply
+repliesT =
+    reply done []
+    ∷ reply done []
+    ∷ reply (shared 10 20) []
+    ∷ reply (loaded 10 2) []
+    ∷ reply (differ (pos 0) 4) []
+    ∷ reply (wrote 21) (plansT 0x0A ++ (7 ∷ []))
+    ∷ reply (refused 15) []
+    ∷ reply (loaded 10 2) []
+    ∷ []
+
+abbrev pub sitesT : Listing
+sitesT = record { sites = pair 0 1 10 ∷ [] }
+
+abbrev pub loadedT : Model
+loadedT = model (sitesT .sites) none
+
+abbrev pub plannedT : Model
+plannedT = model (sitesT .sites) (some (record { groups = 3 ∷ []; shares = 10 ∷ [] }))
+
+-- ---- own 0 and own 1 of 4: groups {0}, {1} are level, and do not fall; {0,1} is the plan, and a change that changes nothing drops it
+
+abbrev pub listO : List ℕ
+listO =
+    0x4C ∷ 0x53 ∷ 0x02 ∷ 0x00 ∷ 0x53 ∷ 0x54 ∷ 0x00 ∷ 0x00 ∷ 0x04 ∷ 0x00 ∷ 0x53 ∷ 0x54 ∷ 0x01 ∷ 0x01 ∷ 0x04 ∷ 0x00 ∷ []
+
+abbrev pub callsO : List Call
+callsO =
+    call Load listO []
+    ∷ call Propose (0x50 ∷ 0x4C ∷ 0x02 ∷ 0x02 ∷ 0x00 ∷ group 0x01 (group 0x02 (share 0x04 (share 0x04 [])))) []
+    ∷ call (Depot 0) [] []
+    ∷ call Propose (0x50 ∷ 0x4C ∷ 0x01 ∷ 0x02 ∷ 0x00 ∷ group 0x03 (share 0x08 (share 0x08 []))) []
+    ∷ call (Change 0 4) [] []
+    ∷ call (Depot 0) [] []
+    ∷ []
+
+abbrev pub repliesO : List Reply
+repliesO = reply done [] ∷ reply (refused 16) [] ∷ reply (refused 17) [] ∷ reply done [] ∷ reply done [] ∷ reply (refused 17) [] ∷ []
+
+abbrev pub sitesO : Listing
+sitesO = record { sites = own 0 4 ∷ own 1 4 ∷ [] }
+
+abbrev pub loadedO : Model
+loadedO = model (sitesO .sites) none
+
+abbrev pub plannedO : Model
+plannedO = model (sitesO .sites) (some (record { groups = 3 ∷ []; shares = 8 ∷ 8 ∷ [] }))
+
+-- ---- (0,1) of 1 twice, which has several plans: two pass, and shares and the plan written out are those of the second
+
+abbrev pub listP : List ℕ
+listP =
+    0x4C ∷ 0x53 ∷ 0x02 ∷ 0x00 ∷ 0x53 ∷ 0x54 ∷ 0x00 ∷ 0x01 ∷ 0x01 ∷ 0x00 ∷ 0x53 ∷ 0x54 ∷ 0x00 ∷ 0x01 ∷ 0x01 ∷ 0x00 ∷ []
+
+abbrev pub planP : ℕ → ℕ → List ℕ
+planP x y = 0x50 ∷ 0x4C ∷ 0x01 ∷ 0x02 ∷ 0x00 ∷ group 0x03 (share x (share y []))
+
+abbrev pub callsP : List Call
+callsP =
+    call Load listP []
+    ∷ call Propose (planP 0x02 0x00) []
+    ∷ call Propose (planP 0x00 0x02) []
+    ∷ call (Share 0) [] []
+    ∷ call Written [] (replicate 28 7)
+    ∷ []
+
+abbrev pub repliesP : List Reply
+repliesP =
+    reply done [] ∷ reply done [] ∷ reply done [] ∷ reply (shared 0 2) [] ∷ reply (wrote 27) (planP 0x00 0x02 ++ (7 ∷ [])) ∷ []
+
+abbrev pub sitesP : Listing
+sitesP = record { sites = pair 0 1 1 ∷ pair 0 1 1 ∷ [] }
+
+abbrev pub loadedP : Model
+loadedP = model (sitesP .sites) none
+
+abbrev pub plannedP : ℕ → ℕ → Model
+plannedP x y = model (sitesP .sites) (some (record { groups = 3 ∷ []; shares = x ∷ y ∷ [] }))
+
+-- ---- the rows of the calls: T on a desk of two places; where two rows apply, the first is given
+
+abbrev pub callsR : List Call
+callsR =
+    call (Share 0) [] []
+    ∷ call Load listT []
+    ∷ call (Change 1 0) [] []
+    ∷ call (Change 1 5) [] []
+    ∷ call (Add 64 0 0) [] []
+    ∷ call (Add 0 1 0) [] []
+    ∷ call (Add 0 1 1) [] []
+    ∷ call (Add 64 0 0) [] []
+    ∷ call Load listT []
+    ∷ call Propose (plansT 0x0A) []
+    ∷ call (Share 1) [] []
+    ∷ call (Depot 2) [] []
+    ∷ call (Difference 0 2) [] []
+    ∷ call Written [] (replicate 20 7)
+    ∷ []
+
+abbrev pub repliesR : List Reply
+repliesR =
+    reply (refused 17) []
+    ∷ reply done []
+    ∷ reply (refused 6) []
+    ∷ reply (refused 18) []
+    ∷ reply (refused 5) []
+    ∷ reply (refused 6) []
+    ∷ reply done []
+    ∷ reply (refused 2) []
+    ∷ reply done []
+    ∷ reply done []
+    ∷ reply (refused 18) []
+    ∷ reply (refused 19) []
+    ∷ reply (refused 19) []
+    ∷ reply (refused 20) (replicate 20 7)
+    ∷ []
+
+-- the answer to the i-th call
+abbrev pub nth : ℕ → List Reply → Told
+nth i rs = getD rs i (reply done []) .answer
