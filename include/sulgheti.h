@@ -1,14 +1,31 @@
-/* Fair-load plans for two-depot supply: the proved engine, as static libraries:
- * Check and Make in libengine.a, the desk in libdesk.a.
+/* Sulgheti: fair-load plans for two-depot supply. The proved engine as static libraries for x86-64 Linux
+ * (System V calling convention): Check and Make in libengine.a, the desk in libdesk.a.
  *
- * Every pointer must be valid for its length and must not be NULL, also where the length is 0.
- * What a function writes must not overlap anything else that it is given. The functions keep nothing
- * between calls, allocate nothing and may be called from several threads at once. On one desk only
- * questions may: a load, a change, an added site or a proposal that succeeds writes store and table,
- * a question and a refused call write neither.
+ * Every pointer must be valid for its length and must not be NULL, also where the length is 0. Buffers of
+ * bytes may stand anywhere: no alignment is asked of them. What a function writes must not overlap
+ * anything else that it is given. The functions keep nothing between calls and allocate nothing; they call
+ * memcpy and memset and no other function. They may be called from several threads at once. On one desk only
+ * questions may: a load, a change, an added site or a proposal that succeeds writes store and table. A
+ * question and a refused call leave both as they were; that no byte of them is written meanwhile is not
+ * proved but tested (tests/c/read_only_t.c).
  *
- * A refusal is the negated number of the first row of document 01's table that applies, and
- * SULGHETI_CORRUPT for row 0; then no byte that was lent is changed. */
+ * A refusal is the negated number of the first row that applies (README.md, "What a refusal means"), and
+ * SULGHETI_CORRUPT for row 0; then every byte that was lent is as it was.
+ *
+ * Records. Numbers are unsigned, low byte first; bytes of the marks are hexadecimal, widths in brackets.
+ *   List: 4C 53, number of sites (2); then for each site 53 54, first depot (1), second depot (1), litres (2).
+ *   Plan: 50 4C, number of groups (1), number of sites (2); then for each group, heaviest first, 47 52 and
+ *         its set (8), in which bit n, worth 2 to the n, stands for depot n; then for each site, in the
+ *         list's order, 53 48 and s (4).
+ * Depots are 0 to 63, litres 1 to 65,535, sites at most 512 and counted from 0. A site with one depot twice
+ * is an own site.
+ *
+ * Figures. A site is carried by the later of its two depots' groups. Of a group:
+ *   q  its size, the number of its depots
+ *   W  the litres of all sites that it carries: each of its depots brings W / q litres of them
+ * and of a site of w litres, with the q of the group that carries it:
+ *   w x q  the site's litres in q-ths of a litre
+ *   s      what the first depot brings, in q-ths of a litre; the second brings w x q - s */
 #ifndef SULGHETI_H
 #define SULGHETI_H
 
@@ -23,9 +40,19 @@
  * length; bytes behind the last whole place are never changed. All numbers are low byte first.
  * Store: number of sites (8), whether a plan is held (8; 0 or 1), number of groups (8), 64 sets (8
  * each), 512 shares (4 each). Place: first depot (1), second depot (1), litres (2). The bytes may be
- * kept and moved as they are. */
+ * kept, moved and used again, store and table together: neither is of use without the other, and the
+ * layout is that of this version. */
 #define SULGHETI_STORE_BYTES 2584
 #define SULGHETI_PLACE_BYTES 4
+
+/* The stack in bytes that suffices for sulgheti_check, for sulgheti_make, for sulgheti_fresh, and for any
+ * other call of the desk. Measured at 512 sites and rounded up; the frames have fixed sizes, and nothing
+ * recurses. tests/c/stack_t.c makes every call on so much and no more, and prints what each wrote. A thread
+ * with 128 KB of stack can make every call. */
+#define SULGHETI_STACK_CHECK 49152
+#define SULGHETI_STACK_MAKE 65536
+#define SULGHETI_STACK_FRESH 8192
+#define SULGHETI_STACK_DESK 98304
 
 /* Row 0: the store or its table does not hold what a desk can hold. */
 #define SULGHETI_CORRUPT (-256)
@@ -34,11 +61,13 @@
 extern "C" {
 #endif
 
-/* 0 where the plan is true of the list, otherwise -row: rows 1 to 6 of the list, 7 to 16 of the plan. */
+/* 0 where the plan is true of the list, otherwise -row: rows 1 to 6 of the list, 7 to 16 of the plan.
+ * Where the list is refused the plan is not read. */
 int64_t sulgheti_check(const uint8_t *list, size_t list_len, const uint8_t *plan, size_t plan_len);
 
-/* Writes a plan that passes to the front of out and answers its length, otherwise -row: rows 1 to 6
- * of the list, 20 where out is too short. The bytes behind the plan are unchanged. */
+/* Writes a plan that passes to the front of out and answers its length, 5 + 10 x groups + 6 x sites;
+ * otherwise -row: rows 1 to 6 of the list, 20 where out is too short. The bytes behind the plan are
+ * unchanged. */
 int64_t sulgheti_make(const uint8_t *list, size_t list_len, uint8_t *out, size_t out_len);
 
 /* The desk. Each call but sulgheti_fresh gets the store and the table as the one before left them.
@@ -47,7 +76,8 @@ int64_t sulgheti_make(const uint8_t *list, size_t list_len, uint8_t *out, size_t
 /* An empty desk: 0, or SULGHETI_CORRUPT where store_len is not SULGHETI_STORE_BYTES. */
 int64_t sulgheti_fresh(uint8_t *store, size_t store_len);
 
-/* The list becomes the desk's, and no plan is held: 0, or rows 1 to 6. */
+/* The list becomes the desk's, and no plan is held: 0, or rows 1 to 6; row 2 also where the table has
+ * fewer places than the list has sites. */
 int64_t sulgheti_load(uint8_t *store, size_t store_len, uint8_t *table, size_t table_len,
                       const uint8_t *list, size_t list_len);
 
@@ -63,19 +93,22 @@ int64_t sulgheti_add(uint8_t *store, size_t store_len, uint8_t *table, size_t ta
 int64_t sulgheti_propose(uint8_t *store, size_t store_len, uint8_t *table, size_t table_len,
                          const uint8_t *plan, size_t plan_len);
 
-/* A site's s, and its w x q: 0, or rows 0, 17, 18. Unless 0 is answered the figures stay as they were. */
+/* A site's s by the plan held, and its w x q: 0, or rows 0, 17, 18. Here and below the figures stay as
+ * they were unless 0 is answered. */
 int64_t sulgheti_share(uint8_t *store, size_t store_len, uint8_t *table, size_t table_len,
                        size_t site, uint64_t *share, uint64_t *whole);
 
-/* A depot's W and q: 0, or rows 0, 17, 19. */
+/* W and q of a depot's group, not reduced: 0, or rows 0, 17, 19. */
 int64_t sulgheti_depot(uint8_t *store, size_t store_len, uint8_t *table, size_t table_len,
                        uint8_t depot, uint64_t *litres, uint64_t *size);
 
-/* W of a x q of b less W of b x q of a, and the divisor q of a x q of b: 0, or rows 0, 17, 19. */
+/* How many litres more depot a brings than depot b, as a fraction: W of a x q of b less W of b x q of a,
+ * and the divisor q of a x q of b: 0, or rows 0, 17, 19. */
 int64_t sulgheti_difference(uint8_t *store, size_t store_len, uint8_t *table, size_t table_len,
                             uint8_t a, uint8_t b, int64_t *difference, uint64_t *divisor);
 
-/* The plan held is written to the front of buffer: its length, or rows 0, 17, 20. */
+/* The plan held is written to the front of buffer, whose other bytes are unchanged: its length, or rows
+ * 0, 17, 20. */
 int64_t sulgheti_written(uint8_t *store, size_t store_len, uint8_t *table, size_t table_len,
                          uint8_t *buffer, size_t buffer_len);
 

@@ -1,5 +1,6 @@
 #!/usr/bin/env bash
-# Tests of tools/list.sh and the program `plan`: the lists of samples/ give the plans of tests/plans/, and what cannot be used is refused.
+# Tests of tools/list.sh and the program `plan`: the lists of samples/ give the plans of tests/plans/, and what cannot be used is refused
+# in words, with nothing on standard output and status 1 from list.sh.
 # Needs target/bin/plan and target/bin/console, which `rt check plan console` builds.
 set -euo pipefail
 cd "$(dirname "$0")/.."
@@ -29,20 +30,52 @@ done
 tools/list.sh <samples/two.txt | cmp - crates/depots/stdin || fail "two.txt: not the sample of depots"
 [ "$(tools/list.sh <samples/t.txt | hex)" = 4c530100535400010a00 ] || fail "t.txt: not T"
 
-# no sites; no newline at the end, comments, leading zeros, the largest figures
-[ "$(printf '' | tools/list.sh | target/bin/plan)" = "0 sites, 0 depots, 0 groups" ] || fail "no sites"
+# a file by name, and its usage
+tools/list.sh samples/two.txt | cmp - crates/depots/stdin || fail "two.txt by name"
+[ "$(tools/list.sh --help)" = 'usage: tools/list.sh [FILE]    writes the list record of the sites in FILE, or on standard input' ] || fail "--help"
+
+# no sites; no newline at the end, comments, leading zeros, carriage returns, a UTF-8 mark, the largest figures
+[ "$(printf '# none\n' | tools/list.sh | target/bin/plan)" = "0 sites, 0 depots, 0 groups" ] || fail "no sites"
+[ "$(printf '\n\n' | tools/list.sh | hex)" = 4c530000 ] || fail "blank lines"
 [ "$(printf '# a\n\n\t08 063  065535 # b' | tools/list.sh | hex)" = 4c5301005354083fffff ] || fail "one site"
+[ "$(printf '\xef\xbb\xbf0 1 10\r\n# \xe9\r\n' | tools/list.sh | hex)" = 4c530100535400010a00 ] || fail "a UTF-8 mark and carriage returns"
+[ "$(printf '0 1 10 #%*s' 992 '' | tools/list.sh | hex)" = 4c530100535400010a00 ] || fail "a line of 1000 bytes"
 for ((i = 0; i < 512; i++)); do echo "$((i % 64)) $((i % 64)) 65535"; done >"$work/most"
 tools/list.sh <"$work/most" | cmp - tests/depots/full.in || fail "512 sites"
 
-# refused TEXT LINE WORDS: list.sh names the line and writes nothing
-refused() {
-    local status=0
-    printf '%b' "$1" | tools/list.sh >"$work/out" 2>"$work/said" || status=$?
-    [ "$status" -eq 1 ] || fail "'$1': status $status"
-    [ ! -s "$work/out" ] || fail "'$1': something is written"
-    [ "$(cat "$work/said")" = "list.sh: line $2: $3" ] || fail "'$1': $(cat "$work/said")"
+# unused WORDS COMMAND ..: the command says the words alone, writes nothing and ends with status 1
+unused() {
+    local words=$1 status=0
+    shift
+    "$@" >"$work/out" 2>"$work/said" || status=$?
+    [ "$status" -eq 1 ] || fail "$*: status $status, not 1 with '$words'"
+    [ ! -s "$work/out" ] || fail "$*: something is written"
+    [ "$(cat "$work/said")" = "list.sh: $words" ] || fail "$*: $(cat "$work/said")"
 }
+usage="usage: tools/list.sh [FILE]    writes the list record of the sites in FILE, or on standard input"
+unused "$usage" tools/list.sh samples/t.txt samples/two.txt
+unused "$usage" tools/list.sh --sites
+unused "$usage" tools/list.sh ''
+unused "$work/nosuch: no such file" tools/list.sh "$work/nosuch"
+unused "samples: a directory, not a file" tools/list.sh samples
+unused "standard input: a directory, not a file" tools/list.sh <samples
+unused "standard input: cannot be read" tools/list.sh <&-
+[ ! -e /proc/self/clear_refs ] || unused "/proc/self/clear_refs: cannot be read" tools/list.sh /proc/self/clear_refs
+unused "/dev/null: no bytes at all (for a list without sites, write a comment)" tools/list.sh /dev/null
+unused "standard input: no bytes at all (for a list without sites, write a comment)" tools/list.sh </dev/null
+unused "standard input: more than 1000000 bytes: not a list in words" tools/list.sh < <(head -c 1000001 /dev/zero)
+if command -v dash >/dev/null; then
+    unused "needs bash: run tools/list.sh or bash tools/list.sh" dash tools/list.sh samples/t.txt
+fi
+
+# refused TEXT LINE WORDS: list.sh names the line
+refused() {
+    printf '%b' "$1" >"$work/text"
+    unused "line $2: $3" tools/list.sh "$work/text"
+}
+refused '0 1 1\00002\n' 1 'a byte 00 or 01, which no text has'
+refused '0 1 12\n# \0000\n' 2 'a byte 00 or 01, which no text has'
+refused "0 1 9\n#$(printf '%*s' 1000 '')" 2 'more than 1000 bytes'
 refused '0 1 9\n1 2\n' 2 'not three numbers: FIRST SECOND LITRES'
 refused '0 1 9 9\n' 1 'not three numbers: FIRST SECOND LITRES'
 refused '# a\n\n64 1 9\n' 3 'the first depot is not a number from 0 to 63'

@@ -1,18 +1,22 @@
 #!/usr/bin/env bash
 # Turns a list in words into a list record.
 #
-#     tools/list.sh < samples/coast.txt > coast.list
+#     tools/list.sh samples/coast.txt > coast.list        # or, from standard input: tools/list.sh < samples/coast.txt
 #
 # A site is a line of three decimal numbers apart by spaces or tabs: its first depot, its second depot
 # (0 to 63, the same twice for an own site) and its litres (1 to 65535). Blank lines are passed over,
-# and so is all from a `#` to the end of a line. A list has at most 512 sites.
-# A line that is anything else is named on standard error; then nothing is written to standard output,
-# and the exit status is 1.
+# and so is all from a `#` to the end of a line, a carriage return at the end and a UTF-8 mark at the front.
+# A list has at most 512 sites; a file of blank lines and comments alone is the list without sites.
+# Anything else is refused: a line that is none of these, has a byte 00 or 01 or over 1,000 bytes; an input
+# that has no bytes or over 1,000,000, or cannot be read. One line on standard error says what and where;
+# then nothing is written to standard output, and the exit status is 1.
+[ -n "${BASH_VERSION:-}" ] || { echo "list.sh: needs bash: run tools/list.sh or bash tools/list.sh" >&2; exit 1; }
 set -euf -o pipefail
-LC_ALL=C
+export LC_ALL=C
+usage='usage: tools/list.sh [FILE]    writes the list record of the sites in FILE, or on standard input'
 
 refuse() {
-    echo "list.sh: line $line: $1" >&2
+    echo "list.sh: $1" >&2
     exit 1
 }
 
@@ -32,24 +36,53 @@ put() {
     done
 }
 
+case $#:${1-} in
+0:)
+    name='standard input'
+    [ -e /dev/stdin ] || refuse "$name: cannot be read"
+    ;;
+1:--help | 1:-h)
+    echo "$usage"
+    exit
+    ;;
+1:-* | 1:) refuse "$usage" ;;
+1:*)
+    name=$1
+    [ -e "$1" ] || refuse "$1: no such file"
+    ;;
+*) refuse "$usage" ;;
+esac
+[ ! -d "${1-/dev/stdin}" ] || refuse "$name: a directory, not a file"
+
+# the input and a full stop, which keeps the newlines at its end; bash would drop a zero byte, so it becomes a 01
+bytes() {
+    if [ $# -eq 0 ]; then head -c 1000001; else head -c 1000001 <"$1"; fi | tr '\000' '\001'
+}
+input=$(bytes "$@" 2>/dev/null && echo .) || refuse "$name: cannot be read"
+input=${input%.}
+[ -n "$input" ] || refuse "$name: no bytes at all (for a list without sites, write a comment)"
+[ ${#input} -le 1000000 ] || refuse "$name: more than 1000000 bytes: not a list in words"
+
 line=0
 sites=0
-while IFS= read -r text || [ -n "$text" ]; do
+while IFS= read -r text; do
     line=$((line + 1))
+    [ ${#text} -le 1000 ] || refuse "line $line: more than 1000 bytes"
+    [[ $text != *$'\001'* ]] || refuse "line $line: a byte 00 or 01, which no text has"
     text=${text%$'\r'}
     words=(${text%%#*})
     [ ${#words[@]} -gt 0 ] || continue
-    [ ${#words[@]} -eq 3 ] || refuse "not three numbers: FIRST SECOND LITRES"
-    in_range "${words[0]}" 0 63 || refuse "the first depot is not a number from 0 to 63"
-    in_range "${words[1]}" 0 63 || refuse "the second depot is not a number from 0 to 63"
-    in_range "${words[2]}" 1 65535 || refuse "the litres are not a number from 1 to 65535"
+    [ ${#words[@]} -eq 3 ] || refuse "line $line: not three numbers: FIRST SECOND LITRES"
+    in_range "${words[0]}" 0 63 || refuse "line $line: the first depot is not a number from 0 to 63"
+    in_range "${words[1]}" 0 63 || refuse "line $line: the second depot is not a number from 0 to 63"
+    in_range "${words[2]}" 1 65535 || refuse "line $line: the litres are not a number from 1 to 65535"
     sites=$((sites + 1))
-    [ "$sites" -le 512 ] || refuse "more than 512 sites"
+    [ "$sites" -le 512 ] || refuse "line $line: more than 512 sites"
     record+=ST
     put "${words[0]}" 1
     put "${words[1]}" 1
     put "${words[2]}" 2
-done
+done <<<"${input#$'\xef\xbb\xbf'}"
 
 body=$record
 record=LS

@@ -1,7 +1,9 @@
 //! Safe calls of the proved engine for fair-load plans.
 //!
-//! A list and a plan are bytes as document 01 lays them out. The engine keeps nothing between calls
-//! and allocates nothing; a [`Desk`] owns the bytes of its store and its table.
+//! A list and a plan are bytes as `include/sulgheti.h` lays them out; it says too what W, q, s and w x q are.
+//! The engine keeps nothing between calls and allocates nothing; a [`Desk`] owns the bytes of its store and its
+//! table. A thread needs 128 KB of stack. `libengine.a` and `libdesk.a`, for x86-64 Linux, are looked for in the
+//! folder that `SULGHETI_LIB` names, or in the repository's `target/staticlib`.
 //!
 //! ```
 //! // One site of 10 litres that depots 0 and 1 supply.
@@ -18,6 +20,7 @@
 //! assert_eq!(desk.depot(0), Ok((10, 2)));
 //! desk.change(0, 11).unwrap();
 //! assert_eq!(desk.propose(&out[..n]), Err(sulgheti::Row(15)));
+//! assert!(format!("{:?}", sulgheti::Row(15)).starts_with("refused 15: a depot's shares"));
 //! ```
 
 use std::fmt;
@@ -238,34 +241,31 @@ fn taken(answer: i64) -> Result<usize, Row> {
     }
 }
 
-/// A refusal: the number of the first row of document 01's table that applies.
-#[derive(Clone, Copy, Debug, PartialEq, Eq, PartialOrd, Ord, Hash)]
+/// A refusal: the number of the first row that applies, of the table "What a refusal means" in README.md.
+#[derive(Clone, Copy, PartialEq, Eq, PartialOrd, Ord, Hash)]
 pub struct Row(pub u8);
 
-/// What each row means and what to do about it, by number.
+/// What each row means and what to do about it, by number, in the words of README.md.
 const TEXTS: [(&str, &str); 21] = [
-    ("the desk or its table does not hold what a desk can hold", "begin with a fresh desk and load the list again"),
-    ("the list has under 4 bytes or does not begin with 4C 53", "give the bytes of a list, from its first byte"),
-    ("the list has more than 512 sites, or more than the table has places", "split the list, or lend a longer table"),
-    ("the list's length is not 4 + 6 x sites", "see that the list is whole and that nothing follows it"),
-    ("a site does not begin with 53 54", "see that every site record has 6 bytes and its mark"),
+    ("the desk or its table does not hold what a desk can hold", "the memory lent to the desk was overwritten: begin with a fresh desk and load the list again"),
+    ("the list has under 4 bytes or does not begin with 4C 53", "is this a list at all? give its bytes from the first on"),
+    ("the list has more than 512 sites, or more than the desk's table has places; or a site is added and there is no place left", "split the list, or lend a longer table"),
+    ("the list's length is not 4 + 6 x sites", "it was cut off, something follows it, or the count is wrong"),
+    ("a site does not begin with 53 54", "a record is damaged or has not 6 bytes: write the list again"),
     ("a site names a depot above 63", "number the depots from 0 to 63"),
     ("a site has 0 litres", "leave the site out, or give its litres"),
-    ("the plan has under 5 bytes or does not begin with 50 4C", "give the bytes of a plan, from its first byte"),
-    ("the plan has more than 64 groups", "give each depot one group"),
+    ("the plan has under 5 bytes or does not begin with 50 4C", "is this a plan at all? give its bytes from the first on"),
+    ("the plan has more than 64 groups", "no list has so many: a depot is in one group only"),
     ("the plan's site count is not the list's", "use the plan that belongs to this list"),
-    ("the plan's length is not 5 + 10 x groups + 6 x sites", "see that the plan is whole and that nothing follows it"),
-    ("a group does not begin with 47 52, or a share not with 53 48", "see that every record of the plan has its mark"),
+    ("the plan's length is not 5 + 10 x groups + 6 x sites", "it was cut off, something follows it, or a count is wrong"),
+    ("a group does not begin with 47 52, or a share not with 53 48", "a record is damaged: write the plan again"),
     ("a group is empty or meets an earlier one", "put each depot into one group, and leave empty groups out"),
     ("the groups together are not the listed depots", "group every depot that a site names, and no other"),
-    (
-        "a share is above w x q, an own site is not whole, or a depot of an earlier group has a share",
-        "give shares in q-ths of a litre, q the size of the later of the two groups, and all of a site to the depot in it",
-    ),
+    ("a share is above w x q, an own site is not whole, or a depot of an earlier group has a share", "give shares in q-ths of a litre, q the size of the later of the site's two groups, and all of the site to the depot in that group"),
     ("a depot's shares do not add up to its group's litres", "level the shares within the group, or make the plan anew"),
     ("litres per depot do not fall strictly from group to group", "the groups are wrong: make the plan anew"),
-    ("no plan is held", "propose a plan that passes first"),
-    ("the site number is not on the desk", "sites are counted from 0; load or add the site first"),
+    ("no plan is held", "propose a plan that passes first; a load, a change or an added site drops the plan held"),
+    ("the site number is not on the desk", "sites are counted from 0: load or add the site first"),
     ("no site names the depot", "ask for a listed depot"),
     ("the buffer is shorter than the plan", "lend 5 + 10 x groups + 6 x sites bytes; 3,717 always suffice"),
 ];
@@ -288,4 +288,25 @@ impl fmt::Display for Row {
     }
 }
 
+/// The same words, so that an error of `main` or of `unwrap` is told in them.
+impl fmt::Debug for Row {
+    fn fmt(&self, f: &mut fmt::Formatter<'_>) -> fmt::Result {
+        fmt::Display::fmt(self, f)
+    }
+}
+
 impl std::error::Error for Row {}
+
+#[cfg(test)]
+mod tests {
+    use super::Row;
+
+    #[test]
+    fn words_are_those_of_the_readme() {
+        let readme = include_str!("../../README.md").replace('×', "x");
+        for n in 0..=20 {
+            let line = format!("\n| {n} | {} | {} |\n", Row(n).meaning(), Row(n).advice());
+            assert!(readme.contains(&line), "{line}");
+        }
+    }
+}
