@@ -42,7 +42,10 @@ loop-less : tie.Need-loop-less Inv-loop μ-loop
 loop-less c = search needs
 
 loop-again : tie.Need-loop-again Inv-loop μ-loop
-loop-again c = (omega arith, search needs, sizes-more (c .before .before .before .before .before .args .groups .now) (c .before .before .before .loop .r) (c .before .before .before .loop .k) _ (c .before .before .before .loop .inv .2) (omega arith) (c .size .ensures))
+loop-again c =
+    let s = c .before .before .before .before .before in
+    let l = c .before .before .before .loop in
+    (omega arith, search needs, sizes-more (s .args .groups .now) (l .r) (l .k) _ (l .inv .2) (omega arith) (c .size .ensures))
 
 returns : tie.Need-returns Inv-loop μ-loop
 returns c = λ l k m. c .before .loop .inv .2 l k (omega arith)

@@ -22,10 +22,14 @@ start c = c .before .before .before .before .before .before
 
 -- what the record says
 said : (c : tie.After-struct-known) → (5 ≤ length (now (start c .args .s))) × (c .before .before .mark .given .0 .0 ≡ field (now (start c .args .s)) 0 2) × (c .before .before .mark .given .0 .1 .0 ≡ field (now (start c .args .s)) 2 3)
-said c = step-read (now (start c .args .s)) 0 3 (sym (c .before .before .mark .given .1) ∙ c .before .before .before .before .step-at .ensures)
+said c =
+    let r = c .before .before .before .before in
+    step-read (now (start c .args .s)) 0 3 (sym (c .before .before .mark .given .1) ∙ r .step-at .ensures)
 
 bytes : (c : tie.After-struct-known) → Bytes (now (start c .args .s))
-bytes c i = c .before .before .before .before .before .shared-slice-known .given i .fits
+bytes c i =
+    let k = c .before .before .before .before .before in
+    k .shared-slice-known .given i .fits
 
 groups : (c : tie.After-struct-known) → c .before .before .mark .given .0 .1 .0 % 256 ≡ groupCount (now (start c .args .s))
 groups c = ap (λ (x : ℕ). x % 256) (said c .2) ∙ head-groups (now (start c .args .s)) (bytes c) (said c .0)
@@ -55,8 +59,12 @@ past3 : (c : tie.Else3) → Past 3 (start (c .before .before .before))
 unfolding firstRow
 past3 c = past2 (c .before) ∙ rw (eq-eqb _ _ (same-sites c))
 
-small : (c : tie.After-struct-known2) → (2 + start (c .before .before .before .before) .args .e .share) * start (c .before .before .before .before) .args .sites ≤ 10 * start (c .before .before .before .before) .args .sites
-small c = mul-le-mul-right (start (c .before .before .before .before) .args .sites) (omega arith)
+-- where the length is tested
+abbrev read : tie.After-struct-known2 → tie.After-struct-known
+read c = c .before .before .before .before
+
+small : (c : tie.After-struct-known2) → (2 + start (read c) .args .e .share) * start (read c) .args .sites ≤ 10 * start (read c) .args .sites
+small c = mul-le-mul-right (start (read c) .args .sites) (omega arith)
 
 step-at-requires : tie.Need-step-at-requires
 step-at-requires c κs = search needs
@@ -69,7 +77,9 @@ enum-told c = search needs
 
 returns : tie.Need-returns
 unfolding firstRow
-returns c = rw (lt-ltb _ _ (step-end (now (c .before .before .before .before .args .s)) 0 3 (omega arith) (sym (c .enum-told .given .1) ∙ c .before .before .step-at .ensures)))
+returns c =
+    let s = c .before .before .before .before in
+    rw (lt-ltb _ _ (step-end (now (s .args .s)) 0 3 (omega arith) (sym (c .enum-told .given .1) ∙ c .before .before .step-at .ensures)))
 
 returns-2 : tie.Need-returns-2
 unfolding firstRow
@@ -100,11 +110,11 @@ add-if4-2 c = omega (arith, small c)
 
 returns-5 : tie.Need-returns-5
 unfolding firstRow
-returns-5 c = rw (past3 (c .before .before), ← (groups (c .before .before .before .before .before)), ne-eqb _ _ (c .if4 .taken))
+returns-5 c = rw (past3 (c .before .before), ← (groups (read (c .before))), ne-eqb _ _ (c .if4 .taken))
 
 returns-6 : tie.Need-returns-6
 unfolding firstRow
-returns-6 c = rw (past3 (c .before .before), ← (groups (c .before .before .before .before .before)), eq-eqb _ _ (c .if4 .left))
+returns-6 c = rw (past3 (c .before .before), ← (groups (read (c .before))), eq-eqb _ _ (c .if4 .left))
 
 pub head-spec : {M : Type 1} → statement M
 head-spec =
