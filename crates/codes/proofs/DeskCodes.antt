@@ -1,27 +1,30 @@
--- A desk call's answer as a code and figures, and that a length that is answered fits. Assumes nothing.
+-- A store call's answer as a code and figures, at bytes that have the length of a store and at others, and that a length that is answered fits. Assumes nothing.
 use Prim.Native.Nat.{ℕ, _*_, _<_, _≤_, _^_}
-use mathlib.Core.Bool.{Bool, true, false, cond}
+use mathlib.Core.Bool.{Bool, true, false, cond, not, false≢true}
 use mathlib.Core.List.{List, []}
 use mathlib.Core.Option.{none, some}
 use mathlib.Core.Path.{_≡_, refl, sym, ap, ap₂, _∙_}
 use native.Mathlib.Omega.{arith}
-use borrow.Author.Tests.{eq-eqb, ne-eqb, ltb-false}
-use lib.Dec.{ltb}
+use borrow.Author.Tests.{eq-eqb, ne-eqb, ltb-false, not-true, not-false}
+use lib.Dec.{ltb, lit<, lit≤}
 use lib.IntN.{ℤ, pos, negℤ}
 use lib.ListN.{length}
 use Rattle.density.specs.Rows.{firstRow}
+use Rattle.records.specs.declared.Edition.{Edition}
+use Rattle.records.specs.Bytes.{Bytes}
 use Rattle.records.specs.Values.{Plan}
+use Rattle.records.specs.Format.{edition1}
 use Rattle.records.specs.Write.{planBytes}
 use Rattle.store.specs.declared.Request.the-variants.{Written}
-use Rattle.store.specs.Calls.{Call, Reply, Told, refused, wrote, same}
+use Rattle.store.specs.Calls.{Call, Reply, Told, wrote}
+use Rattle.store.specs.Widths.{Fitting}
 use Rattle.store.specs.Model.{missing, held}
 use Rattle.held_state.specs.Held.{State, planHeld, corrupt}
 use Rattle.store.specs.State.{effectOf, settle, step}
-use Rattle.layout.specs.Layout.{isSized}
-use Rattle.lent.specs.Lent.{Lent, stateIn, lent, laid, call, Called, Freshened}
+use Rattle.lent.specs.Lent.{Lent, stateIn, isOf, Called, Freshened}
 use Rattle.lent.proofs.Contracts.{laid-reply}
 use Rattle.codes.specs.declared.Coded.{Coded}
-use Rattle.codes.specs.Codes.{rowCode, doneCode, lengthCode, firstOf, secondOf, differenceOf, Moved, Did, Figures, Differs, WroteOut, FreshCode}
+use Rattle.codes.specs.Codes.{rowCode, noStoreCode, doneCode, lengthCode, firstOf, secondOf, differenceOf, answerOf, Moved, Did, Figures, Differs, WroteOut, FreshCode}
 
 -- ---- codes of rows
 
@@ -35,42 +38,97 @@ pub outcome-eq : {r r' d d' : ℤ} {x y : ℕ} → r ≡ r' → d ≡ d'
     → _≡_ {A = Coded} (record { code = r; first = x; second = y; difference = d }) (record { code = r'; first = x; second = y; difference = d' })
 outcome-eq {x = x} {y = y} e f = ap₂ (λ (r d : ℤ). record { code = r; first = x; second = y; difference = d }) e f
 
+-- ---- the test of the length, and what it gives a call over lent bytes
+
+pub no-bytes : Bytes []
+no-bytes i = lit< tt
+
+module _ {b x : Bool} (tested : b ≡ x) where
+  pub is-store : not b ≡ false → x ≡ true
+  is-store h = sym tested ∙ not-false b h
+
+  pub no-store : not b ≡ true → x ≡ false
+  no-store h = sym tested ∙ not-true b h
+
+pub asks : {e : Edition} (s : List ℕ) → e ≡ edition1 → isOf edition1 s ≡ true → Fitting e × (isOf e s ≡ true)
+asks s k long = rw k ((lit≤ tt, lit≤ tt), long)
+
+-- ---- bytes that have not the length of a store
+
+module _ {e : Edition} {s t : List ℕ} {c : Call} (other : isOf e s ≡ false) (bytes : Bytes (c .input)) where
+  unmoved : Moved e s t c s t
+  unmoved =
+      record {
+        store = rw other refl;
+        table = rw other refl;
+        long = refl;
+        reads = λ h. absurd (false≢true (sym other ∙ h));
+        bytes = bytes;
+      }
+
+  pub did-not : Did e s t c noStoreCode s t
+  did-not = record { code = rw other refl; moved = unmoved }
+
+  pub no-figures : {m n : ℕ} → Figures e s t c noStoreCode m n m n
+  no-figures = record { code = rw other refl; first = rw other refl; second = rw other refl; kept = unmoved }
+
+  pub no-difference : {m : ℤ} {n : ℕ} → Differs e s t c noStoreCode m n m n
+  no-difference = record { code = rw other refl; difference = rw other refl; divisor = rw other refl; kept = unmoved }
+
+  pub not-written : WroteOut e s t c noStoreCode (c .buffer)
+  not-written = record { code = rw other refl; buffer = rw other refl; kept = unmoved }
+
+pub not-fresh : {e : Edition} {s : List ℕ} → isOf e s ≡ false → FreshCode e s noStoreCode s
+not-fresh other = record { code = rw other refl; store = rw other refl; reads = λ h. absurd (false≢true (sym other ∙ h)) }
+
 -- ---- what a call promises, by its answer as numbers
 
-module _ {s t s' t' buffer : List ℕ} {c : Call} {a : Told} (x : Called s t c a s' t' buffer) where
-  answer-is : a ≡ call s t c .reply .answer
+module _ {e : Edition} {s t s' t' buffer : List ℕ} {c : Call} {a : Told} (long : isOf e s ≡ true) (x : Called e s t c a s' t' buffer) where
+  answer-is : a ≡ answerOf e s t c
   answer-is = ap (λ (l : Lent). l .reply .answer) (x .is)
 
-  moved : Moved s t c s' t'
+  moved : Moved e s t c s' t'
   moved =
       record {
-        store = ap (λ (l : Lent). l .store) (x .is);
-        table = ap (λ (l : Lent). l .table) (x .is);
+        store = rw long (ap (λ (l : Lent). l .store) (x .is));
+        table = rw long (ap (λ (l : Lent). l .table) (x .is));
         long = x .long;
-        reads = x .reads;
+        reads = λ h. x .reads;
         bytes = x .bytes;
       }
 
-  pub did : {r : ℤ} → r ≡ doneCode a → Did s t c r s' t'
-  did e = record { code = e ∙ ap doneCode answer-is; moved = moved }
+  pub did : {r : ℤ} → r ≡ doneCode a → Did e s t c r s' t'
+  did f = record { code = rw long (f ∙ ap doneCode answer-is); moved = moved }
 
-  pub figures : {r : ℤ} {m n m' n' : ℕ} → r ≡ doneCode a → m' ≡ firstOf a m → n' ≡ secondOf a n → Figures s t c r s' t' m n m' n'
-  figures {m = m} {n} e f g =
-      record { did = did e; first = f ∙ ap (λ (a : Told). firstOf a m) answer-is; second = g ∙ ap (λ (a : Told). secondOf a n) answer-is }
-
-  pub differs : {r m z m' : ℤ} {n n' : ℕ} → r ≡ doneCode a → m' ≡ differenceOf a z → z ≡ m → n' ≡ secondOf a n → Differs s t c r s' t' m n m' n'
-  differs {m = m} {n = n} e f h g =
+module _ {e : Edition} {s t buffer : List ℕ} {c : Call} {a : Told} (long : isOf e s ≡ true) (x : Called e s t c a s t buffer) where
+  pub figures : {r : ℤ} {m n m' n' : ℕ} → r ≡ doneCode a → m' ≡ firstOf a m → n' ≡ secondOf a n → Figures e s t c r m n m' n'
+  figures {m = m} {n} f g h =
       record {
-        did = did e;
-        difference = f ∙ ap (differenceOf a) h ∙ ap (λ (a : Told). differenceOf a m) answer-is;
-        divisor = g ∙ ap (λ (a : Told). secondOf a n) answer-is;
+        code = rw long (f ∙ ap doneCode (answer-is long x));
+        first = rw long (g ∙ ap (λ (a : Told). firstOf a m) (answer-is long x));
+        second = rw long (h ∙ ap (λ (a : Told). secondOf a n) (answer-is long x));
+        kept = moved long x;
       }
 
-  pub wrote-out : {r : ℤ} → r ≡ lengthCode a → WroteOut s t c r s' t' buffer
-  wrote-out e = record { code = e ∙ ap lengthCode answer-is; moved = moved; buffer = ap (λ (l : Lent). l .reply .buffer) (x .is) }
+  pub differs : {r m z m' : ℤ} {n n' : ℕ} → r ≡ doneCode a → m' ≡ differenceOf a z → z ≡ m → n' ≡ secondOf a n → Differs e s t c r m n m' n'
+  differs {m = m} {n = n} f g k h =
+      record {
+        code = rw long (f ∙ ap doneCode (answer-is long x));
+        difference = rw long (g ∙ ap (differenceOf a) k ∙ ap (λ (a : Told). differenceOf a m) (answer-is long x));
+        divisor = rw long (h ∙ ap (λ (a : Told). secondOf a n) (answer-is long x));
+        kept = moved long x;
+      }
 
-pub fresh-code : {s s' : List ℕ} {b : Bool} {r : ℤ} → Freshened s b s' → r ≡ cond b (pos 0) (rowCode 0) → FreshCode s r s'
-fresh-code f e = record { code = e ∙ ap (λ (b : Bool). cond b (pos 0) (rowCode 0)) (f .answer); store = f .is; reads = f .reads }
+  pub wrote-out : {r : ℤ} → r ≡ lengthCode a → WroteOut e s t c r buffer
+  wrote-out f =
+      record {
+        code = rw long (f ∙ ap lengthCode (answer-is long x));
+        buffer = rw long (ap (λ (l : Lent). l .reply .buffer) (x .is));
+        kept = moved long x;
+      }
+
+pub fresh-code : {e : Edition} {s s' : List ℕ} → isOf e s ≡ true → Freshened e s' → FreshCode e s (pos 0) s'
+fresh-code long f = record { code = rw long refl; store = rw long (f .is); reads = λ h. f .reads }
 
 -- ---- a length that is answered is one that the buffer holds
 
@@ -98,13 +156,9 @@ module _ (s : State) (input buffer : List ℕ) (n : ℕ) where
       let r = by-rows (corrupt s) (s .store .held) (planHeld s) (λ (p : Plan). ltb (length buffer) (length (planBytes (s .edition) p))) e in
       omega (arith, ltb-false (length buffer) (length bytes) (r .0), r .1)
 
-module _ (s t : List ℕ) (c : Call) (n : ℕ) where
-  by-sized : (b : Bool) → cond b (laid s t (step (stateIn s t) c)) (lent s t (same c (refused 0))) .reply .answer ≡ wrote n → step (stateIn s t) c .reply .answer ≡ wrote n
-  by-sized true e = sym (ap (λ (r : Reply). r .answer) (laid-reply s t (step (stateIn s t) c))) ∙ e
-  by-sized false e = let z : _≡_ {A = ℕ} 0 1 = cc in absurd (omega arith)
-
-pub length-held : {s t s' t' last : List ℕ} (buffer : List ℕ) {a : Told} → Called s t (record { request = Written; input = []; buffer = buffer }) a s' t' last
-    → length buffer * 1 < 2 ^ 63 → (n : ℕ) → a ≡ wrote n → n < 2 ^ 63
-length-held {s} {t} buffer x room n e =
-    let k = step-fits (stateIn s t) [] buffer n (by-sized s t (record { request = Written; input = []; buffer = buffer }) n (isSized s) (sym (answer-is x) ∙ e)) in
+pub length-held : {e : Edition} {s t s' t' last : List ℕ} (buffer : List ℕ) {a : Told}
+    → Called e s t (record { request = Written; input = []; buffer = buffer }) a s' t' last → length buffer * 1 < 2 ^ 63 → (n : ℕ) → a ≡ wrote n → n < 2 ^ 63
+length-held {e} {s} {t} buffer x room n h =
+    let d = step (stateIn e s t) (record { request = Written; input = []; buffer = buffer }) in
+    let k = step-fits (stateIn e s t) [] buffer n (sym (ap (λ (l : Lent). l .reply .answer) (x .is) ∙ ap (λ (r : Reply). r .answer) (laid-reply e s t d)) ∙ h) in
     omega arith

@@ -1,4 +1,4 @@
--- Document 01, "Entry points", the desk: what the library for Rust and C answers to a desk call, as one number and up to two figures.
+-- Document 01, "Entry points", the desk: what the library for Rust and C answers to a call of the store, as one number and up to two figures.
 use Prim.Native.Nat.{ℕ}
 use mathlib.Core.Bool.{true, cond}
 use mathlib.Core.List.{List}
@@ -6,17 +6,21 @@ use mathlib.Core.Path.{_≡_}
 use lib.Dec.{eqb}
 use lib.IntN.{ℤ, pos, negℤ}
 use lib.ListN.{length}
+use Rattle.records.specs.declared.Edition.{Edition}
 use Rattle.records.specs.Bytes.{Bytes}
 use Rattle.store.specs.Calls.{Call, Told, refused, done, shared, loaded, differ, wrote}
 use Rattle.store.specs.State.{bare, step}
-use Rattle.edition1.specs.Edition1.{fresh1}
-use Rattle.layout.specs.Layout.{storeBytes, isSized, storeIn}
-use Rattle.lent.specs.Lent.{stateIn, call}
+use Rattle.layout.specs.Layout.{storeBytes, storeIn}
+use Rattle.lent.specs.Lent.{stateIn, isOf, call}
 use Rattle.codes.specs.declared.Coded.{Coded}
 
 -- a row's number with a minus sign; row 0, which would be 0, is -256
 abbrev pub rowCode : ℕ → ℤ
 rowCode n = cond (eqb n 0) (negℤ (pos 256)) (negℤ (pos n))
+
+-- What is answered where the bytes have not the length of a store: no row of the paper, so no row's number.
+abbrev pub noStoreCode : ℤ
+noStoreCode = negℤ (pos 257)
 
 -- 0 where the call is done, or its row
 abbrev pub doneCode : Told → ℤ
@@ -64,39 +68,45 @@ differenceOf (wrote n) x = x
 abbrev pub outcomeOf : Told → ℕ → ℕ → ℤ → Coded
 outcomeOf a x y z = record { code = doneCode a; first = firstOf a x; second = secondOf a y; difference = differenceOf a z }
 
--- What an exported function does to the bytes of the store and of the table: what the call does; they stand for the state after its step; and its
--- input is bytes.
-pub record Moved (s t : List ℕ) (c : Call) (s' t' : List ℕ) : Type 0 where
-  pub store : s' ≡ call s t c .store
-  pub table : t' ≡ call s t c .table
+-- the answer to a call at bytes that have the length of a store
+abbrev pub answerOf : Edition → List ℕ → List ℕ → Call → Told
+answerOf e s t c = call e s t c .reply .answer
+
+-- What a function that writes does to the bytes of the store and of the table: what the call does, and they then stand for the state after its step;
+-- nothing, where the store has not the length of one. Its input is bytes.
+pub record Moved (e : Edition) (s t : List ℕ) (c : Call) (s' t' : List ℕ) : Type 0 where
+  pub store : s' ≡ cond (isOf e s) (call e s t c .store) s
+  pub table : t' ≡ cond (isOf e s) (call e s t c .table) t
   pub long : length s' ≡ length s
-  pub reads : isSized s ≡ true → stateIn s' t' ≡ step (stateIn s t) c .after
+  pub reads : isOf e s ≡ true → stateIn e s' t' ≡ step (stateIn e s t) c .after
   pub bytes : Bytes (c .input)
 
-pub record Did (s t : List ℕ) (c : Call) (r : ℤ) (s' t' : List ℕ) : Type 0 where
-  pub code : r ≡ doneCode (call s t c .reply .answer)
-  pub moved : Moved s t c s' t'
+pub record Did (e : Edition) (s t : List ℕ) (c : Call) (r : ℤ) (s' t' : List ℕ) : Type 0 where
+  pub code : r ≡ cond (isOf e s) (doneCode (answerOf e s t c)) noStoreCode
+  pub moved : Moved e s t c s' t'
 
--- The same of a question for two figures, which go where they are asked for.
-pub record Figures (s t : List ℕ) (c : Call) (r : ℤ) (s' t' : List ℕ) (x y x' y' : ℕ) : Type 0 where
-  pub did : Did s t c r s' t'
-  pub first : x' ≡ firstOf (call s t c .reply .answer) x
-  pub second : y' ≡ secondOf (call s t c .reply .answer) y
+-- A question for two figures, which go where they are asked for. Store and table are only read.
+pub record Figures (e : Edition) (s t : List ℕ) (c : Call) (r : ℤ) (x y x' y' : ℕ) : Type 0 where
+  pub code : r ≡ cond (isOf e s) (doneCode (answerOf e s t c)) noStoreCode
+  pub first : x' ≡ cond (isOf e s) (firstOf (answerOf e s t c) x) x
+  pub second : y' ≡ cond (isOf e s) (secondOf (answerOf e s t c) y) y
+  pub kept : Moved e s t c s t
 
 -- "below zero where a is lighter, with the divisor"
-pub record Differs (s t : List ℕ) (c : Call) (r : ℤ) (s' t' : List ℕ) (x : ℤ) (y : ℕ) (x' : ℤ) (y' : ℕ) : Type 0 where
-  pub did : Did s t c r s' t'
-  pub difference : x' ≡ differenceOf (call s t c .reply .answer) x
-  pub divisor : y' ≡ secondOf (call s t c .reply .answer) y
+pub record Differs (e : Edition) (s t : List ℕ) (c : Call) (r : ℤ) (x : ℤ) (y : ℕ) (x' : ℤ) (y' : ℕ) : Type 0 where
+  pub code : r ≡ cond (isOf e s) (doneCode (answerOf e s t c)) noStoreCode
+  pub difference : x' ≡ cond (isOf e s) (differenceOf (answerOf e s t c) x) x
+  pub divisor : y' ≡ cond (isOf e s) (secondOf (answerOf e s t c) y) y
+  pub kept : Moved e s t c s t
 
 -- "the held plan written out as Make writes"
-pub record WroteOut (s t : List ℕ) (c : Call) (r : ℤ) (s' t' out : List ℕ) : Type 0 where
-  pub code : r ≡ lengthCode (call s t c .reply .answer)
-  pub moved : Moved s t c s' t'
-  pub buffer : out ≡ call s t c .reply .buffer
+pub record WroteOut (e : Edition) (s t : List ℕ) (c : Call) (r : ℤ) (out : List ℕ) : Type 0 where
+  pub code : r ≡ cond (isOf e s) (lengthCode (answerOf e s t c)) noStoreCode
+  pub buffer : out ≡ cond (isOf e s) (call e s t c .reply .buffer) (c .buffer)
+  pub kept : Moved e s t c s t
 
--- a fresh store where there are 2,584 bytes for it, otherwise row 0 and nothing is written
-pub record FreshCode (s : List ℕ) (r : ℤ) (s' : List ℕ) : Type 0 where
-  pub code : r ≡ cond (isSized s) (pos 0) (rowCode 0)
-  pub store : s' ≡ cond (isSized s) (storeBytes (bare 0)) s
-  pub reads : isSized s ≡ true → storeIn s' ≡ fresh1
+-- a fresh store where the bytes have the length of one, otherwise nothing is written
+pub record FreshCode (e : Edition) (s : List ℕ) (r : ℤ) (s' : List ℕ) : Type 0 where
+  pub code : r ≡ cond (isOf e s) (pos 0) noStoreCode
+  pub store : s' ≡ cond (isOf e s) (storeBytes (e .share) (bare 0)) s
+  pub reads : isOf e s ≡ true → storeIn (e .share) s' ≡ bare 0

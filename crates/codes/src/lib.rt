@@ -1,16 +1,19 @@
-// A desk call's answer as the numbers that a C function gives back.
-use edition1::Request1;
+// A store call's answer as the numbers that a C function gives back.
+use records::edition1;
 use signed::length;
 use signed::refused;
 use store::Answer;
+use store::Request;
 ghost use mathlib.Core.Path.{_≡_};
 ghost use mathlib.Core.List.{[]};
 ghost use Prim.Native.Nat.{ℕ, _<_, _^_};
 ghost use Rattle.store.specs.Calls.{told, wrote};
-ghost use Rattle.edition1.specs.Edition1.{callOf1};
+ghost use Rattle.records.specs.Format.{edition1};
+ghost use Rattle.store.specs.Trace.{Question};
+ghost use Rattle.lent.specs.Lent.{isOf};
 ghost use Rattle.codes.specs.Codes.{rowCode, lengthCode, outcomeOf, Figures};
 
-// A desk's answer as numbers: its code, two figures and a difference.
+// A store's answer as numbers: its code, two figures and a difference.
 pub struct Coded {
     pub code: i64,
     pub first: u64,
@@ -90,17 +93,29 @@ pub fn written(a: Answer) -> i64
     }
 }
 
-// A question for two figures: 0 and they are written, or the row.
+// Have the bytes the length of a store of edition 1?
+pub fn is_store1(store: &[u8]) -> bool
+    ensures { λ r. ⌜ r ≡ isOf edition1 (now (store .entry)) ⌝ }
+{
+    store.len() == 2584
+}
+
+// A question for two figures: 0 and they are written, or the row; -257 where the bytes are no store.
 pub fn figures(
-    store: &mut [u8],
-    table: &mut [u8],
-    request: Request1,
+    store: &[u8],
+    table: &[u8],
+    request: Request,
     first: &mut u64,
     second: &mut u64,
 ) -> i64
-    ensures { λ r. ⌜ Figures (now (store .entry)) (now (table .entry)) (callOf1 request [] []) r (now (store .exit)) (now (table .exit)) (now (first .entry)) (now (second .entry)) (now (first .exit)) (now (second .exit)) ⌝ }
+    requires { ⌜ Question request ⌝ }
+    ensures { λ r. ⌜ Figures edition1 (now (store .entry)) (now (table .entry)) (record { request = request; input = []; buffer = [] }) r (now (first .entry)) (now (second .entry)) (now (first .exit)) (now (second .exit)) ⌝ }
 {
-    let a = lent::ask(store, table, request);
+    if !is_store1(store) {
+        return -257;
+    }
+    let mut none = [0u8; 0];
+    let a = lent::look(edition1(), store, table, request, &mut none);
     let x = *first;
     let y = *second;
     let o = outcome(a, x, y, 0);

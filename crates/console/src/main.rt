@@ -21,14 +21,12 @@
 // The last line may lack its newline. An answer is printed as soon as its line is read.
 use commands::Command;
 use edition1::Request1;
-use edition1::Store1;
-use edition1::fresh1;
-use entries1::call_on1;
+use edition1::widen_request;
 use libc::STDIN_FILENO;
 use libc::STDOUT_FILENO;
 use records::Wrote;
+use records::edition1;
 use store::Answer;
-use table::Site1;
 use tables::Verdict;
 ghost use mathlib.Core.Path.{_≡_};
 ghost use Prim.Native.Nat.{_≤_};
@@ -36,11 +34,11 @@ ghost use lib.IntN.{natAbs};
 ghost use Rattle.io.specs.Counts.{Counts};
 ghost use Rattle.commands.specs.Commands.{commandOf};
 
-// A desk, its table and how many places the table has.
+// The bytes of a store and of its table, and how many places the table has: 4 bytes each, at most 600.
 struct Desk {
     places: usize,
-    store: Store1,
-    table: [Site1; 600],
+    store: [u8; 2584],
+    table: [u8; 2400],
 }
 
 // What is kept between reads: whether there may be more to read, how many bytes of the next line are read, and the desk.
@@ -171,15 +169,12 @@ fn run_make(args: &[u8], len: usize)
 fn fresh(places: usize) -> Desk
     requires { ⌜ places ≤ 600 ⌝ }
 {
-    let blank = Site1 {
-        first: 0,
-        second: 0,
-        litres: 0,
-    };
+    let mut store = [0u8; 2584];
+    lent::fresh(edition1(), &mut store);
     Desk {
         places,
-        store: fresh1(),
-        table: [blank; 600],
+        store,
+        table: [0; 2400],
     }
 }
 
@@ -200,16 +195,29 @@ fn end_call(request: Request1, buffer: &[u8]) {
     }
 }
 
-// A call of the desk, and its answer.
+// The bytes of a table of so many places.
+fn table_bytes(places: usize) -> usize
+    ensures { λ r. ⌜ r ≤ 2400 ⌝ }
+{
+    if places < 600 { 4 * places } else { 2400 }
+}
+
+// A call of the desk, and its answer: the entry over lent bytes, which the library exports call by call.
 fn called(desk: Desk, request: Request1, input: &[u8], buffer: &mut [u8]) -> Desk {
-    let store = desk.store;
-    let table = desk.table;
-    let out = call_on1(store, table, desk.places, request, input, buffer);
-    let answer = out.answer;
+    let mut store = desk.store;
+    let mut table = desk.table;
+    let n = table_bytes(desk.places);
+    let asked = widen_request(request);
+    let answer = lent::call(
+        edition1(),
+        &mut store,
+        &mut table[..n],
+        asked,
+        input,
+        buffer,
+    );
     print_answer(answer);
     end_call(request, buffer);
-    let store = out.store;
-    let table = out.table;
     Desk {
         places: desk.places,
         store,

@@ -1,5 +1,5 @@
--- The contract of each exported desk function, as the program logic has it, says what the definitions of `codes/specs/Codes` say, and asks nothing. Each holds by
--- computation, so a changed contract is refused here.
+-- The contract of each exported function of the store, as the program logic has it, says what the definitions of `codes/specs/Codes` say of edition 1, and asks nothing.
+-- Each holds by computation, so a changed contract is refused here. Assumes nothing.
 use Prim.Native.Nat.{ℕ}
 use mathlib.Core.List.{List, []}
 use mathlib.Core.Path.{_≡_, refl}
@@ -14,8 +14,10 @@ use ghost.Atoms.{Atoms}
 use base.Logic.{SProp}
 use denote.Ref.{RefT, now}
 use lib.IntN.{ℤ}
-use Rattle.edition1.specs.declared.Request1.the-variants.{Load, Change, Add, Propose, Share, Depot, Difference, Written}
-use Rattle.edition1.specs.Edition1.{callOf1}
+use Rattle.records.specs.Format.{edition1}
+use Rattle.store.specs.declared.Request.{Request}
+use Rattle.store.specs.declared.Request.the-variants.{Load, Change, Add, Propose, Share, Depot, Difference, Written}
+use Rattle.store.specs.Calls.{Call}
 use Rattle.codes.specs.Codes.{Did, Figures, Differs, WroteOut, FreshCode}
 use Rattle.desk.proofs.sulgheti_fresh as of-fresh
 use Rattle.desk.proofs.sulgheti_load as of-load
@@ -27,10 +29,13 @@ use Rattle.desk.proofs.sulgheti_depot as of-depot
 use Rattle.desk.proofs.sulgheti_difference as of-difference
 use Rattle.desk.proofs.sulgheti_written as of-written
 
+abbrev asked : Request → List ℕ → List ℕ → Call
+asked q input buffer = record { request = q; input = input; buffer = buffer }
+
 module _ {M : Type 1} (𝓤 : URA M) (H : Heap 𝓤) (A : Atoms 𝓤) (mem : Memory → SProp 𝓤) (run : Routine → Fun 𝓤) (s s' : RefT (List ℕ)) where
   open Connectives (connectives 𝓤) using (⌜_⌝, ⊤ₛ)
 
-  fresh-says : (κs : Lfts 1) (r : ℤ) → of-fresh.clauses 𝓤 H A mem run κs (s, tt) .ensures tt r (s', tt) ≡ ⌜ FreshCode (now s) r (now s') ⌝
+  fresh-says : (κs : Lfts 1) (r : ℤ) → of-fresh.clauses 𝓤 H A mem run κs (s, tt) .ensures tt r (s', tt) ≡ ⌜ FreshCode edition1 (now s) r (now s') ⌝
   fresh-says κs r = refl
 
   fresh-asks : (κs : Lfts 1) → of-fresh.clauses 𝓤 H A mem run κs (s, tt) .requires tt ≡ ⊤ₛ
@@ -39,7 +44,7 @@ module _ {M : Type 1} (𝓤 : URA M) (H : Heap 𝓤) (A : Atoms 𝓤) (mem : Mem
   module _ (t t' : RefT (List ℕ)) (r : ℤ) where
     load-says : (κs : Lfts 3) (list list' : RefT (List ℕ))
         → of-load.clauses 𝓤 H A mem run κs (s, (t, (list, tt))) .ensures tt r (s', (t', (list', tt)))
-        ≡ ⌜ Did (now s) (now t) (callOf1 Load (now list) []) r (now s') (now t') ⌝
+        ≡ ⌜ Did edition1 (now s) (now t) (asked Load (now list) []) r (now s') (now t') ⌝
     load-says κs list list' = refl
 
     load-asks : (κs : Lfts 3) (list : RefT (List ℕ)) → of-load.clauses 𝓤 H A mem run κs (s, (t, (list, tt))) .requires tt ≡ ⊤ₛ
@@ -47,7 +52,7 @@ module _ {M : Type 1} (𝓤 : URA M) (H : Heap 𝓤) (A : Atoms 𝓤) (mem : Mem
 
     change-says : (κs : Lfts 2) (i : ℕ) (w : ℕ)
         → of-change.clauses 𝓤 H A mem run κs (s, (t, (i, (w, tt)))) .ensures tt r (s', (t', (i, (w, tt))))
-        ≡ ⌜ Did (now s) (now t) (callOf1 (Change i w) [] []) r (now s') (now t') ⌝
+        ≡ ⌜ Did edition1 (now s) (now t) (asked (Change i w) [] []) r (now s') (now t') ⌝
     change-says κs i w = refl
 
     change-asks : (κs : Lfts 2) (i : ℕ) (w : ℕ) → of-change.clauses 𝓤 H A mem run κs (s, (t, (i, (w, tt)))) .requires tt ≡ ⊤ₛ
@@ -55,7 +60,7 @@ module _ {M : Type 1} (𝓤 : URA M) (H : Heap 𝓤) (A : Atoms 𝓤) (mem : Mem
 
     add-says : (κs : Lfts 2) (f : ℕ) (d : ℕ) (w : ℕ)
         → of-add.clauses 𝓤 H A mem run κs (s, (t, (f, (d, (w, tt))))) .ensures tt r (s', (t', (f, (d, (w, tt)))))
-        ≡ ⌜ Did (now s) (now t) (callOf1 (Add f d w) [] []) r (now s') (now t') ⌝
+        ≡ ⌜ Did edition1 (now s) (now t) (asked (Add f d w) [] []) r (now s') (now t') ⌝
     add-says κs f d w = refl
 
     add-asks : (κs : Lfts 2) (f : ℕ) (d : ℕ) (w : ℕ) → of-add.clauses 𝓤 H A mem run κs (s, (t, (f, (d, (w, tt))))) .requires tt ≡ ⊤ₛ
@@ -63,7 +68,7 @@ module _ {M : Type 1} (𝓤 : URA M) (H : Heap 𝓤) (A : Atoms 𝓤) (mem : Mem
 
     propose-says : (κs : Lfts 3) (plan plan' : RefT (List ℕ))
         → of-propose.clauses 𝓤 H A mem run κs (s, (t, (plan, tt))) .ensures tt r (s', (t', (plan', tt)))
-        ≡ ⌜ Did (now s) (now t) (callOf1 Propose (now plan) []) r (now s') (now t') ⌝
+        ≡ ⌜ Did edition1 (now s) (now t) (asked Propose (now plan) []) r (now s') (now t) ⌝
     propose-says κs plan plan' = refl
 
     propose-asks : (κs : Lfts 3) (plan : RefT (List ℕ)) → of-propose.clauses 𝓤 H A mem run κs (s, (t, (plan, tt))) .requires tt ≡ ⊤ₛ
@@ -71,7 +76,7 @@ module _ {M : Type 1} (𝓤 : URA M) (H : Heap 𝓤) (A : Atoms 𝓤) (mem : Mem
 
     share-says : (κs : Lfts 4) (i : ℕ) (x x' : RefT ℕ) (y y' : RefT ℕ)
         → of-share.clauses 𝓤 H A mem run κs (s, (t, (i, (x, (y, tt))))) .ensures tt r (s', (t', (i, (x', (y', tt)))))
-        ≡ ⌜ Figures (now s) (now t) (callOf1 (Share i) [] []) r (now s') (now t') (now x) (now y) (now x') (now y') ⌝
+        ≡ ⌜ Figures edition1 (now s) (now t) (asked (Share i) [] []) r (now x) (now y) (now x') (now y') ⌝
     share-says κs i x x' y y' = refl
 
     share-asks : (κs : Lfts 4) (i : ℕ) (x : RefT ℕ) (y : RefT ℕ) → of-share.clauses 𝓤 H A mem run κs (s, (t, (i, (x, (y, tt))))) .requires tt ≡ ⊤ₛ
@@ -79,7 +84,7 @@ module _ {M : Type 1} (𝓤 : URA M) (H : Heap 𝓤) (A : Atoms 𝓤) (mem : Mem
 
     depot-says : (κs : Lfts 4) (d : ℕ) (x x' : RefT ℕ) (y y' : RefT ℕ)
         → of-depot.clauses 𝓤 H A mem run κs (s, (t, (d, (x, (y, tt))))) .ensures tt r (s', (t', (d, (x', (y', tt)))))
-        ≡ ⌜ Figures (now s) (now t) (callOf1 (Depot d) [] []) r (now s') (now t') (now x) (now y) (now x') (now y') ⌝
+        ≡ ⌜ Figures edition1 (now s) (now t) (asked (Depot d) [] []) r (now x) (now y) (now x') (now y') ⌝
     depot-says κs d x x' y y' = refl
 
     depot-asks : (κs : Lfts 4) (d : ℕ) (x : RefT ℕ) (y : RefT ℕ) → of-depot.clauses 𝓤 H A mem run κs (s, (t, (d, (x, (y, tt))))) .requires tt ≡ ⊤ₛ
@@ -87,7 +92,7 @@ module _ {M : Type 1} (𝓤 : URA M) (H : Heap 𝓤) (A : Atoms 𝓤) (mem : Mem
 
     difference-says : (κs : Lfts 4) (a : ℕ) (b : ℕ) (x x' : RefT ℤ) (y y' : RefT ℕ)
         → of-difference.clauses 𝓤 H A mem run κs (s, (t, (a, (b, (x, (y, tt)))))) .ensures tt r (s', (t', (a, (b, (x', (y', tt))))))
-        ≡ ⌜ Differs (now s) (now t) (callOf1 (Difference a b) [] []) r (now s') (now t') (now x) (now y) (now x') (now y') ⌝
+        ≡ ⌜ Differs edition1 (now s) (now t) (asked (Difference a b) [] []) r (now x) (now y) (now x') (now y') ⌝
     difference-says κs a b x x' y y' = refl
 
     difference-asks : (κs : Lfts 4) (a : ℕ) (b : ℕ) (x : RefT ℤ) (y : RefT ℕ) → of-difference.clauses 𝓤 H A mem run κs (s, (t, (a, (b, (x, (y, tt)))))) .requires tt ≡ ⊤ₛ
@@ -95,7 +100,7 @@ module _ {M : Type 1} (𝓤 : URA M) (H : Heap 𝓤) (A : Atoms 𝓤) (mem : Mem
 
     written-says : (κs : Lfts 3) (out out' : RefT (List ℕ))
         → of-written.clauses 𝓤 H A mem run κs (s, (t, (out, tt))) .ensures tt r (s', (t', (out', tt)))
-        ≡ ⌜ WroteOut (now s) (now t) (callOf1 Written [] (now out)) r (now s') (now t') (now out') ⌝
+        ≡ ⌜ WroteOut edition1 (now s) (now t) (asked Written [] (now out)) r (now out') ⌝
     written-says κs out out' = refl
 
     written-asks : (κs : Lfts 3) (out : RefT (List ℕ)) → of-written.clauses 𝓤 H A mem run κs (s, (t, (out, tt))) .requires tt ≡ ⊤ₛ

@@ -1,63 +1,70 @@
--- The contracts of the exported desk functions say what `Did`, `Figures`, `Differs`, `WroteOut` and `FreshCode` say (Contracts); so any calls of them, from what
--- `sulgheti_fresh` writes and a table of any bytes, are a history of document 01, and each code, figure and buffer that they give is that of the history's reply. Assumes nothing.
+-- The contracts of the exported functions of the store say what `Did`, `Figures`, `Differs`, `WroteOut` and `FreshCode` say of edition 1 (Contracts); so any calls of them,
+-- from what `sulgheti_fresh` writes where it answers 0 and a table of any bytes, are a history of document 01, and each code, figure and buffer that they give is that of the
+-- history's reply. The laws are over the edition. Assumes nothing.
 use Prim.Native.Nat.{ℕ, zero, suc}
 use mathlib.Core.Bool.{Bool, true, false, cond}
-use mathlib.Core.List.{List, [], _∷_, map}
+use mathlib.Core.List.{List, [], _∷_}
 use mathlib.Core.Option.{Option, none, some}
 use mathlib.Core.Path.{_≡_, refl, sym, ap, ap₂, _∙_, subst}
 use native.Mathlib.Omega.{arith}
-use lib.IntN.{pos, negℤ}
+use lib.Dec.{eqb}
+use lib.IntN.{ℤ, pos, negℤ}
+use Rattle.records.specs.declared.Edition.{Edition}
 use Rattle.records.specs.Format.{edition1}
+use Rattle.records.specs.Write.{Marked}
 use Rattle.records.proofs.Samples.{marked1}
-use Rattle.table.specs.Widths.{widened}
-use Rattle.edition1.specs.declared.Store1.{Store1}
-use Rattle.edition1.specs.declared.Request1.{Request1}
-use Rattle.edition1.specs.declared.Request1.the-variants.{Share, Depot, Difference}
+use Rattle.held_state.specs.declared.Store.{Store}
+use Rattle.held_state.specs.Held.{State, on}
+use Rattle.store.specs.declared.Request.{Request}
+use Rattle.store.specs.declared.Request.the-variants.{Share, Depot, Difference}
 use Rattle.store.specs.Calls.{Call, Reply, Told}
-use Rattle.held_state.specs.Held.{State}
 use Rattle.store.specs.State.{Done, modelOf, effectOf, refusal, settle, step}
 use Rattle.store.specs.Trace.{Run, start, then, Steps, History, AllBytes, Exact, SameFigures}
-use Rattle.edition1.specs.Edition1.{view1, callOf1}
 use Rattle.store.proofs.History.{exact, same-figures}
-use Rattle.layout.specs.Layout.{isSized, sitesIn}
-use Rattle.lent.specs.Lent.{stateIn, call, Freshened}
+use Rattle.layout.specs.Layout.{storeSize, sitesIn}
+use Rattle.lent.specs.Lent.{stateIn, isOf, call, Freshened}
 use Rattle.lent.proofs.Contracts.{laid-reply, fresh-sized}
-use Rattle.codes.specs.Codes.{rowCode, doneCode, firstOf, secondOf, differenceOf, Moved, FreshCode}
+use Rattle.codes.specs.Codes.{rowCode, noStoreCode, doneCode, firstOf, secondOf, differenceOf, answerOf, Moved, FreshCode}
 use Rattle.codes.proofs.DeskCodes.{other-code}
-use Rattle.desk.specs.Exports.{Given, coded, figures, differs, written, Exported, Answers, AllAnswer, Calls, none, next, SameGiven}
+use Rattle.desk.specs.Exports.{Given, coded, figures, differs, written, Exported, Answers, AllAnswer, Calls, none, next, question, SameGiven}
 
-module _ (s t s' t' : List ℕ) (c : Call) where
-  moved : (g : Given) → Exported s t c g s' t' → Moved s t c s' t'
+module _ (e : Edition) (s t s' t' : List ℕ) (c : Call) where
+  as-kept : s' ≡ s → t' ≡ t → Moved e s t c s t → Moved e s t c s' t'
+  as-kept h k m = subst (λ (z : List ℕ). Moved e s t c z t') (sym h) (subst (λ (z : List ℕ). Moved e s t c s z) (sym k) m)
+
+  moved : (g : Given) → Exported e s t c g s' t' → Moved e s t c s' t'
   moved (coded r) x = x .moved
-  moved (figures r a b a' b') x = x .did .moved
-  moved (differs r a b a' b') x = x .did .moved
-  moved (written r out) x = x .moved
+  moved (figures r a b a' b') x = as-kept (x .1) (x .2) (x .0 .kept)
+  moved (differs r a b a' b') x = as-kept (x .1) (x .2) (x .0 .kept)
+  moved (written r out) x = as-kept (x .1) (x .2) (x .0 .kept)
 
-  answers : (g : Given) → Exported s t c g s' t' → Answers g (call s t c .reply)
-  answers (coded r) x = x .code
-  answers (figures r a b a' b') x = (x .did .code, x .first, x .second)
-  answers (differs r a b a' b') x = (x .did .code, x .difference, x .divisor)
-  answers (written r out) x = (x .code, x .buffer)
+  module _ (long : isOf e s ≡ true) where
+    answers : (g : Given) → Exported e s t c g s' t' → Answers g (call e s t c .reply)
+    answers (coded r) x = rw long at (x .code)
+    answers (figures r a b a' b') x = (rw long at (x .0 .code), rw long at (x .0 .first), rw long at (x .0 .second))
+    answers (differs r a b a' b') x = (rw long at (x .0 .code), rw long at (x .0 .difference), rw long at (x .0 .divisor))
+    answers (written r out) x = (rw long at (x .0 .code), rw long at (x .0 .buffer))
 
-  is-step : isSized s ≡ true → Moved s t c s' t' → Steps (stateIn s t) c (call s t c .reply) (stateIn s' t')
-  is-step long m =
-      let e : call s t c .reply ≡ step (stateIn s t) c .reply = rw long (laid-reply s t (step (stateIn s t) c)) in
-      ap₂ (λ (z : State) (r : Reply). record { after = z; reply = r }) (m .reads long) e
+    is-step : Moved e s t c s' t' → Steps (stateIn e s t) c (call e s t c .reply) (stateIn e s' t')
+    is-step m = ap₂ (λ (z : State) (r : Reply). record { after = z; reply = r }) (m .reads long) (laid-reply e s t (step (stateIn e s t) c))
 
-run : {s t s' t' : List ℕ} {cs : List Call} {gs : List Given} → isSized s ≡ true → Calls s t cs gs s' t'
-    → (rs : List Reply) × Run Steps (stateIn s t) cs rs (stateIn s' t') × AllAnswer gs rs
+    stays-sized : Moved e s t c s' t' → isOf e s' ≡ true
+    stays-sized m = ap (λ (n : ℕ). eqb n (storeSize (e .share))) (m .long) ∙ long
+
+run : {e : Edition} {s t s' t' : List ℕ} {cs : List Call} {gs : List Given} → isOf e s ≡ true → Calls e s t cs gs s' t'
+    → (rs : List Reply) × Run Steps (stateIn e s t) cs rs (stateIn e s' t') × AllAnswer gs rs
 unfolding AllAnswer
 run long none = ([], start, tt)
-run {s} {t} long (next {s₁ = s₁} {t₁ = t₁} {c = c} {g = g} x calls) =
-    let m = moved s t s₁ t₁ c g x in
-    let (rs, steps, all) = run (rw (m .long) long) calls in
-    (call s t c .reply ∷ rs, then (is-step s t s₁ t₁ c long m) steps, (answers s t s₁ t₁ c g x, all))
+run {e} {s} {t} long (next {s₁ = s₁} {t₁ = t₁} {c = c} {g = g} x calls) =
+    let m = moved e s t s₁ t₁ c g x in
+    let (rs, steps, all) = run (stays-sized e s t s₁ t₁ c long m) calls in
+    (call e s t c .reply ∷ rs, then (is-step e s t s₁ t₁ c long m) steps, (answers e s t s₁ t₁ c long g x, all))
 
 -- every input is bytes: the contracts say so
-inputs : {s t s' t' : List ℕ} {cs : List Call} {gs : List Given} → Calls s t cs gs s' t' → AllBytes cs
+inputs : {e : Edition} {s t s' t' : List ℕ} {cs : List Call} {gs : List Given} → Calls e s t cs gs s' t' → AllBytes cs
 unfolding AllBytes
 inputs none = tt
-inputs {s} {t} (next {s₁ = s₁} {t₁ = t₁} {c = c} {g = g} x calls) = (moved s t s₁ t₁ c g x .bytes, inputs calls)
+inputs {e} {s} {t} (next {s₁ = s₁} {t₁ = t₁} {c = c} {g = g} x calls) = (moved e s t s₁ t₁ c g x .bytes, inputs calls)
 
 -- a row's code is not 0
 row-not-done : (n : ℕ) → pos 0 ≡ rowCode n → ⊥
@@ -67,85 +74,110 @@ row-not-done (suc n) e =
     let z : _≡_ {A = ℕ} 0 1 = cc in
     omega arith
 
--- `sulgheti_fresh` answers 0 only where it has written a fresh store
-done-fresh : {s₀ s : List ℕ} → FreshCode s₀ (pos 0) s → Freshened s₀ true s
-done-fresh {s₀} f = record { answer = by (isSized s₀) (f .code); is = f .store; reads = f .reads }
-  where
-    by : (b : Bool) → pos 0 ≡ cond b (pos 0) (rowCode 0) → true ≡ b
-    by true e = refl
-    by false e = absurd (row-not-done 0 e)
+-- what answers 0 has been given a store
+done-there : (x : ℤ) (b : Bool) → pos 0 ≡ cond b x noStoreCode → b ≡ true
+done-there x true h = refl
+done-there x false h = let z : _≡_ {A = ℕ} 0 1 = cc in absurd (omega arith)
 
-module _ {s₀ s t s' t' : List ℕ} {cs : List Call} {gs : List Given} (f : FreshCode s₀ (pos 0) s) (calls : Calls s t cs gs s' t') where
-  pub exports-history : (rs : List Reply) × History edition1 (map widened (sitesIn t)) cs rs (stateIn s' t') × AllAnswer gs rs
-  exports-history =
+-- `sulgheti_fresh` answers 0 only where it has written a fresh store
+done-fresh : {e : Edition} {s₀ s : List ℕ} → FreshCode e s₀ (pos 0) s → Freshened e s
+done-fresh {e} {s₀} f =
+    let long = done-there (pos 0) (isOf e s₀) (f .code) in
+    record { is = rw long at (f .store); reads = f .reads long }
+
+module _ {e : Edition} {s₀ s t s' t' : List ℕ} {cs : List Call} {gs : List Given} (f : FreshCode e s₀ (pos 0) s) (calls : Calls e s t cs gs s' t') where
+  pub calls-history : (rs : List Reply) × History e (sitesIn (e .litres) t) cs rs (stateIn e s' t') × AllAnswer gs rs
+  calls-history =
       let g = done-fresh f in
       let (rs, steps, all) = run (fresh-sized g) calls in
-      (rs, subst (λ (z : State). Run Steps z cs rs (stateIn s' t')) (ap (λ (x : Store1). view1 x (sitesIn t)) (g .reads (sym (g .answer)))) steps, all)
+      (rs, subst (λ (z : State). Run Steps z cs rs (stateIn e s' t')) (ap (λ (x : Store). on e x (sitesIn (e .litres) t)) (g .reads)) steps, all)
 
   -- Demand 3 of these calls: what they give is what the model replies, in numbers.
-  pub exports-exact : (rs : List Reply) × Exact edition1 (map widened (sitesIn t)) cs rs (stateIn s' t') × AllAnswer gs rs
-  exports-exact = let (rs, h, all) = exports-history in (rs, exact marked1 h (inputs calls), all)
+  pub calls-exact : Marked e → (rs : List Reply) × Exact e (sitesIn (e .litres) t) cs rs (stateIn e s' t') × AllAnswer gs rs
+  calls-exact m = let (rs, h, all) = calls-history in (rs, exact m h (inputs calls), all)
 
 -- ---- two stores that hold the same list
 
 -- what has the code 0 is what no row refuses
-module _ (s t s' t' : List ℕ) (q : Request1) (long : isSized s ≡ true) where
-  abbrev asked : Call
-  asked = callOf1 q [] []
-
+module _ (e : Edition) (s t : List ℕ) (q : Request) where
   abbrev answer : Told
-  answer = call s t asked .reply .answer
+  answer = answerOf e s t (question q)
 
   abbrev granted : Told
-  granted = effectOf (stateIn s t) asked (asked .request) .reply .answer
+  granted = effectOf (stateIn e s t) (question q) q .reply .answer
 
-  not-refused : (o : Option ℕ) → answer ≡ settle o (stateIn s t) asked (effectOf (stateIn s t) asked (asked .request)) .reply .answer → pos 0 ≡ doneCode answer → answer ≡ granted
-  not-refused none e k = e
-  not-refused (some n) e k = absurd (row-not-done n (k ∙ ap doneCode e))
+  not-refused : (o : Option ℕ) → answer ≡ settle o (stateIn e s t) (question q) (effectOf (stateIn e s t) (question q) q) .reply .answer → pos 0 ≡ doneCode answer → answer ≡ granted
+  not-refused none h k = h
+  not-refused (some n) h k = absurd (row-not-done n (k ∙ ap doneCode h))
 
-  answered : Moved s t asked s' t' → pos 0 ≡ doneCode answer → answer ≡ granted
-  answered m = not-refused (refusal (stateIn s t) asked) (ap (λ (d : Done). d .reply .answer) (is-step s t s' t' asked long m))
+  module _ (m : Moved e s t (question q) s t) (code : pos 0 ≡ cond (isOf e s) (doneCode answer) noStoreCode) where
+    long : isOf e s ≡ true
+    long = done-there (doneCode answer) (isOf e s) code
+
+    steps : Steps (stateIn e s t) (question q) (call e s t (question q) .reply) (stateIn e s t)
+    steps = is-step e s t s t (question q) long m
+
+    answered : answer ≡ granted
+    answered = not-refused (refusal (stateIn e s t) (question q)) (ap (λ (d : Done). d .reply .answer) steps) (rw long at code)
+
+    -- a figure that is asked for is that of the answer
+    given : {A : Type 0} (of : Told → A) {r : A} (y : A) → r ≡ cond (isOf e s) (of answer) y → r ≡ of granted
+    given of y h = (rw long at h) ∙ ap of answered
 
 -- the figures of the same questions
-module _ {s₁ t₁ s₂ t₂ : List ℕ} (long₁ : isSized s₁ ≡ true) (long₂ : isSized s₂ ≡ true) (h : SameFigures (stateIn s₁ t₁) (stateIn s₂ t₂)) where
-  same-given : SameGiven s₁ t₁ s₂ t₂
+module _ {e : Edition} {s₁ t₁ s₂ t₂ : List ℕ} (h : SameFigures (stateIn e s₁ t₁) (stateIn e s₂ t₂)) where
+  same-given : SameGiven e s₁ t₁ s₂ t₂
   same-given =
       record {
-        site = λ i x₁ y₁ x₁' y₁' x₂ y₂ x₂' y₂' s₁' t₁' s₂' t₂' f g.
-            let c : Call = callOf1 (Share i) [] [] in
-            let a₁ = answered s₁ t₁ s₁' t₁' (Share i) long₁ (f .did .moved) (f .did .code) in
-            let a₂ = answered s₂ t₂ s₂' t₂' (Share i) long₂ (g .did .moved) (g .did .code) in
-            f .second ∙ ap (λ (a : Told). secondOf a y₁) a₁
-            ∙ h .site c c i _ _ _ _ _ _ _ _ refl refl (is-step s₁ t₁ s₁' t₁' c long₁ (f .did .moved)) (is-step s₂ t₂ s₂' t₂' c long₂ (g .did .moved)) a₁ a₂
-            ∙ sym (g .second ∙ ap (λ (a : Told). secondOf a y₂) a₂);
-        depot = λ d x₁ y₁ x₁' y₁' x₂ y₂ x₂' y₂' s₁' t₁' s₂' t₂' f g.
-            let c : Call = callOf1 (Depot d) [] [] in
-            let a₁ = answered s₁ t₁ s₁' t₁' (Depot d) long₁ (f .did .moved) (f .did .code) in
-            let a₂ = answered s₂ t₂ s₂' t₂' (Depot d) long₂ (g .did .moved) (g .did .code) in
-            let e = h .depot c c d _ _ _ _ _ _ _ _ refl refl (is-step s₁ t₁ s₁' t₁' c long₁ (f .did .moved)) (is-step s₂ t₂ s₂' t₂' c long₂ (g .did .moved)) a₁ a₂ in (
-              f .first ∙ ap (λ (a : Told). firstOf a x₁) a₁ ∙ e .0 ∙ sym (g .first ∙ ap (λ (a : Told). firstOf a x₂) a₂),
-              f .second ∙ ap (λ (a : Told). secondOf a y₁) a₁ ∙ e .1 ∙ sym (g .second ∙ ap (λ (a : Told). secondOf a y₂) a₂),
+        site = λ i x₁ y₁ x₁' y₁' x₂ y₂ x₂' y₂' f g.
+            let q = Share i in
+            let same = h .site (question q) (question q) i _ _ _ _ _ _ _ _ refl refl (steps e s₁ t₁ q (f .kept) (f .code)) (steps e s₂ t₂ q (g .kept) (g .code))
+            (answered e s₁ t₁ q (f .kept) (f .code)) (answered e s₂ t₂ q (g .kept) (g .code)) in
+            given e s₁ t₁ q (f .kept) (f .code) (λ (a : Told). secondOf a y₁) y₁ (f .second)
+            ∙ same
+            ∙ sym (given e s₂ t₂ q (g .kept) (g .code) (λ (a : Told). secondOf a y₂) y₂ (g .second));
+        depot = λ d x₁ y₁ x₁' y₁' x₂ y₂ x₂' y₂' f g.
+            let q = Depot d in
+            let same = h .depot (question q) (question q) d _ _ _ _ _ _ _ _ refl refl (steps e s₁ t₁ q (f .kept) (f .code)) (steps e s₂ t₂ q (g .kept) (g .code))
+            (answered e s₁ t₁ q (f .kept) (f .code)) (answered e s₂ t₂ q (g .kept) (g .code)) in (
+              given e s₁ t₁ q (f .kept) (f .code) (λ (a : Told). firstOf a x₁) x₁ (f .first)
+                  ∙ same .0
+                  ∙ sym (given e s₂ t₂ q (g .kept) (g .code) (λ (a : Told). firstOf a x₂) x₂ (g .first)),
+              given e s₁ t₁ q (f .kept) (f .code) (λ (a : Told). secondOf a y₁) y₁ (f .second)
+                  ∙ same .1
+                  ∙ sym (given e s₂ t₂ q (g .kept) (g .code) (λ (a : Told). secondOf a y₂) y₂ (g .second)),
             );
-        differences = λ a b x₁ y₁ x₁' y₁' x₂ y₂ x₂' y₂' s₁' t₁' s₂' t₂' f g.
-            let c : Call = callOf1 (Difference a b) [] [] in
-            let a₁ = answered s₁ t₁ s₁' t₁' (Difference a b) long₁ (f .did .moved) (f .did .code) in
-            let a₂ = answered s₂ t₂ s₂' t₂' (Difference a b) long₂ (g .did .moved) (g .did .code) in
-            let e = h .differences c c a b _ _ _ _ _ _ _ _ refl refl (is-step s₁ t₁ s₁' t₁' c long₁ (f .did .moved)) (is-step s₂ t₂ s₂' t₂' c long₂ (g .did .moved)) a₁ a₂ in (
-              f .difference ∙ ap (λ (a : Told). differenceOf a x₁) a₁ ∙ e .0 ∙ sym (g .difference ∙ ap (λ (a : Told). differenceOf a x₂) a₂),
-              f .divisor ∙ ap (λ (a : Told). secondOf a y₁) a₁ ∙ e .1 ∙ sym (g .divisor ∙ ap (λ (a : Told). secondOf a y₂) a₂),
+        differences = λ a b x₁ y₁ x₁' y₁' x₂ y₂ x₂' y₂' f g.
+            let q = Difference a b in
+            let same = h .differences (question q) (question q) a b _ _ _ _ _ _ _ _ refl refl (steps e s₁ t₁ q (f .kept) (f .code)) (steps e s₂ t₂ q (g .kept) (g .code))
+            (answered e s₁ t₁ q (f .kept) (f .code)) (answered e s₂ t₂ q (g .kept) (g .code)) in (
+              given e s₁ t₁ q (f .kept) (f .code) (λ (a : Told). differenceOf a x₁) x₁ (f .difference)
+                  ∙ same .0
+                  ∙ sym (given e s₂ t₂ q (g .kept) (g .code) (λ (a : Told). differenceOf a x₂) x₂ (g .difference)),
+              given e s₁ t₁ q (f .kept) (f .code) (λ (a : Told). secondOf a y₁) y₁ (f .divisor)
+                  ∙ same .1
+                  ∙ sym (given e s₂ t₂ q (g .kept) (g .code) (λ (a : Told). secondOf a y₂) y₂ (g .divisor)),
             );
       }
 
-stays-sized : {s t s' t' : List ℕ} {cs : List Call} {gs : List Given} → isSized s ≡ true → Calls s t cs gs s' t' → isSized s' ≡ true
-stays-sized long none = long
-stays-sized {s} {t} long (next {s₁ = s₁} {t₁ = t₁} {c = c} {g = g} x calls) = stays-sized (rw (moved s t s₁ t₁ c g x .long) long) calls
-
 -- Two stores that hold the same list after such calls: each W, q, w × q and difference that both answer, and that the functions give for both, is the same.
-pub exports-same-figures : {s₀ s t s' t' u₀ u v u' v' : List ℕ} {cs ds : List Call} {gs hs : List Given}
-    → FreshCode s₀ (pos 0) s → Calls s t cs gs s' t' → FreshCode u₀ (pos 0) u → Calls u v ds hs u' v'
-    → modelOf (stateIn s' t') .list ≡ modelOf (stateIn u' v') .list → SameFigures (stateIn s' t') (stateIn u' v') × SameGiven s' t' u' v'
-exports-same-figures f x g y l =
-    let (rs, e, all) = exports-exact f x in
-    let (ts, d, each) = exports-exact g y in
+pub calls-same : {e : Edition} {s₀ s t s' t' u₀ u v u' v' : List ℕ} {cs ds : List Call} {gs hs : List Given}
+    → Marked e → FreshCode e s₀ (pos 0) s → Calls e s t cs gs s' t' → FreshCode e u₀ (pos 0) u → Calls e u v ds hs u' v'
+    → modelOf (stateIn e s' t') .list ≡ modelOf (stateIn e u' v') .list → SameFigures (stateIn e s' t') (stateIn e u' v') × SameGiven e s' t' u' v'
+calls-same m f x g y l =
+    let (rs, e, all) = calls-exact f x m in
+    let (ts, d, each) = calls-exact g y m in
     let h = same-figures e d l in
-    (h, same-given (stays-sized (fresh-sized (done-fresh f)) x) (stays-sized (fresh-sized (done-fresh g)) y) h)
+    (h, same-given h)
+
+-- ---- the exported functions: edition 1
+
+pub exports-exact : {s₀ s t s' t' : List ℕ} {cs : List Call} {gs : List Given} → FreshCode edition1 s₀ (pos 0) s → Calls edition1 s t cs gs s' t'
+    → (rs : List Reply) × Exact edition1 (sitesIn 2 t) cs rs (stateIn edition1 s' t') × AllAnswer gs rs
+exports-exact f calls = calls-exact f calls marked1
+
+pub calls-same-given : {s₀ s t s' t' u₀ u v u' v' : List ℕ} {cs ds : List Call} {gs hs : List Given}
+    → FreshCode edition1 s₀ (pos 0) s → Calls edition1 s t cs gs s' t' → FreshCode edition1 u₀ (pos 0) u → Calls edition1 u v ds hs u' v'
+    → modelOf (stateIn edition1 s' t') .list ≡ modelOf (stateIn edition1 u' v') .list
+    → SameFigures (stateIn edition1 s' t') (stateIn edition1 u' v') × SameGiven edition1 s' t' u' v'
+calls-same-given f x g y l = calls-same marked1 f x g y l

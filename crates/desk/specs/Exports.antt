@@ -1,10 +1,11 @@
--- Calls of the exported desk functions, one after another: what each gives its caller, and how that is the reply of a call.
+-- Calls of the exported functions of the store, one after another: what each gives its caller, and how that is the reply of a call.
 use Prim.Native.Nat.{ℕ}
 use mathlib.Core.List.{List, [], _∷_}
 use mathlib.Core.Path.{_≡_}
 use lib.IntN.{ℤ, pos}
-use Rattle.edition1.specs.declared.Request1.the-variants.{Share, Depot, Difference}
-use Rattle.edition1.specs.Edition1.{callOf1}
+use Rattle.records.specs.declared.Edition.{Edition}
+use Rattle.store.specs.declared.Request.{Request}
+use Rattle.store.specs.declared.Request.the-variants.{Share, Depot, Difference}
 use Rattle.store.specs.Calls.{Call, Reply}
 use Rattle.codes.specs.Codes.{doneCode, lengthCode, firstOf, secondOf, differenceOf, Did, Figures, Differs, WroteOut}
 
@@ -15,12 +16,12 @@ pub data Given : Type 0 where
   differs : ℤ → ℤ → ℕ → ℤ → ℕ → Given
   written : ℤ → List ℕ → Given
 
--- the contract of the function that gives so, for the bytes of the store and of the table before and after
-abbrev pub Exported : List ℕ → List ℕ → Call → Given → List ℕ → List ℕ → Type 0
-Exported s t c (coded r) s' t' = Did s t c r s' t'
-Exported s t c (figures r x y x' y') s' t' = Figures s t c r s' t' x y x' y'
-Exported s t c (differs r x y x' y') s' t' = Differs s t c r s' t' x y x' y'
-Exported s t c (written r out) s' t' = WroteOut s t c r s' t' out
+-- the contract of the function that gives so, for the bytes of the store and of the table before and after; a question leaves them
+abbrev pub Exported : Edition → List ℕ → List ℕ → Call → Given → List ℕ → List ℕ → Type 0
+Exported e s t c (coded r) s' t' = Did e s t c r s' t'
+Exported e s t c (figures r x y x' y') s' t' = Figures e s t c r x y x' y' × (s' ≡ s) × (t' ≡ t)
+Exported e s t c (differs r x y x' y') s' t' = Differs e s t c r x y x' y' × (s' ≡ s) × (t' ≡ t)
+Exported e s t c (written r out) s' t' = WroteOut e s t c r out × (s' ≡ s) × (t' ≡ t)
 
 -- what is given is the reply, in numbers: the code is 0, the length or the row; the figures are written where there are any; the buffer is the reply's
 abbrev pub Answers : Given → Reply → Type 0
@@ -37,20 +38,22 @@ AllAnswer (g ∷ gs) [] = ⊥
 AllAnswer (g ∷ gs) (r ∷ rs) = Answers g r × AllAnswer gs rs
 
 -- "Each call gets the desk and the table as the one before left them, and nobody else writes either meanwhile."
-pub data Calls : List ℕ → List ℕ → List Call → List Given → List ℕ → List ℕ → Type 0 where
-  none : {s t : List ℕ} → Calls s t [] [] s t
+pub data Calls (e : Edition) : List ℕ → List ℕ → List Call → List Given → List ℕ → List ℕ → Type 0 where
+  none : {s t : List ℕ} → Calls e s t [] [] s t
   next : {s t s₁ t₁ s' t' : List ℕ} {c : Call} {cs : List Call} {g : Given} {gs : List Given}
-      → Exported s t c g s₁ t₁ → Calls s₁ t₁ cs gs s' t' → Calls s t (c ∷ cs) (g ∷ gs) s' t'
+      → Exported e s t c g s₁ t₁ → Calls e s₁ t₁ cs gs s' t' → Calls e s t (c ∷ cs) (g ∷ gs) s' t'
+
+-- a question, which is given neither input nor buffer
+abbrev pub question : Request → Call
+question q = record { request = q; input = []; buffer = [] }
 
 -- "Two desks hold the same list if their books' lists are equal": each W, q, w × q and difference that the same question then gets of both,
 -- with the code 0, is the same; s is that of each one's plan.
-pub record SameGiven (s₁ t₁ s₂ t₂ : List ℕ) : Type 0 where
-  pub site : (i : ℕ) (x₁ y₁ x₁' y₁' x₂ y₂ x₂' y₂' : ℕ) (s₁' t₁' s₂' t₂' : List ℕ)
-      → Exported s₁ t₁ (callOf1 (Share i) [] []) (figures (pos 0) x₁ y₁ x₁' y₁') s₁' t₁'
-      → Exported s₂ t₂ (callOf1 (Share i) [] []) (figures (pos 0) x₂ y₂ x₂' y₂') s₂' t₂' → y₁' ≡ y₂'
-  pub depot : (d : ℕ) (x₁ y₁ x₁' y₁' x₂ y₂ x₂' y₂' : ℕ) (s₁' t₁' s₂' t₂' : List ℕ)
-      → Exported s₁ t₁ (callOf1 (Depot d) [] []) (figures (pos 0) x₁ y₁ x₁' y₁') s₁' t₁'
-      → Exported s₂ t₂ (callOf1 (Depot d) [] []) (figures (pos 0) x₂ y₂ x₂' y₂') s₂' t₂' → (x₁' ≡ x₂') × (y₁' ≡ y₂')
-  pub differences : (a b : ℕ) (x₁ : ℤ) (y₁ : ℕ) (x₁' : ℤ) (y₁' : ℕ) (x₂ : ℤ) (y₂ : ℕ) (x₂' : ℤ) (y₂' : ℕ) (s₁' t₁' s₂' t₂' : List ℕ)
-      → Exported s₁ t₁ (callOf1 (Difference a b) [] []) (differs (pos 0) x₁ y₁ x₁' y₁') s₁' t₁'
-      → Exported s₂ t₂ (callOf1 (Difference a b) [] []) (differs (pos 0) x₂ y₂ x₂' y₂') s₂' t₂' → (x₁' ≡ x₂') × (y₁' ≡ y₂')
+pub record SameGiven (e : Edition) (s₁ t₁ s₂ t₂ : List ℕ) : Type 0 where
+  pub site : (i : ℕ) (x₁ y₁ x₁' y₁' x₂ y₂ x₂' y₂' : ℕ) → Figures e s₁ t₁ (question (Share i)) (pos 0) x₁ y₁ x₁' y₁'
+      → Figures e s₂ t₂ (question (Share i)) (pos 0) x₂ y₂ x₂' y₂' → y₁' ≡ y₂'
+  pub depot : (d : ℕ) (x₁ y₁ x₁' y₁' x₂ y₂ x₂' y₂' : ℕ) → Figures e s₁ t₁ (question (Depot d)) (pos 0) x₁ y₁ x₁' y₁'
+      → Figures e s₂ t₂ (question (Depot d)) (pos 0) x₂ y₂ x₂' y₂' → (x₁' ≡ x₂') × (y₁' ≡ y₂')
+  pub differences : (a b : ℕ) (x₁ : ℤ) (y₁ : ℕ) (x₁' : ℤ) (y₁' : ℕ) (x₂ : ℤ) (y₂ : ℕ) (x₂' : ℤ) (y₂' : ℕ)
+      → Differs e s₁ t₁ (question (Difference a b)) (pos 0) x₁ y₁ x₁' y₁'
+      → Differs e s₂ t₂ (question (Difference a b)) (pos 0) x₂ y₂ x₂' y₂' → (x₁' ≡ x₂') × (y₁' ≡ y₂')

@@ -26,16 +26,16 @@ use Rattle.table.proofs.Copies.{Copied, copied-begins, copied-ends, widened-ove
 use Rattle.held_state.specs.declared.Store.{Store}
 use Rattle.edition1.specs.declared.Store1.{Store1}
 use Rattle.store.specs.declared.Request.{Request}
-use Rattle.store.specs.declared.Request.the-variants.{Change, Add}
 use Rattle.edition1.specs.declared.Request1.{Request1}
 use Rattle.store.specs.declared.Decision.{Decision}
 use Rattle.store.specs.Calls.{told}
 use Rattle.held_state.specs.Held.{on}
 use Rattle.store.specs.State.{Done}
+use Rattle.store.specs.Widths.{Named, Fits}
+use Rattle.store.proofs.Widths.{step-fits}
 use Rattle.serve.specs.Serve.{Served}
 use Rattle.serve.proofs.FirstPlaces.{same-front, front-there}
 use Rattle.edition1.specs.Edition1.{storeOf1, view1, requestOf1, callOf1, Served1}
-use Rattle.edition1.proofs.Edition1Fits.{Fits, Named, named, step-fits}
 
 -- an array of 32-bit figures
 each-fits : (l : List ℕ) (us : List Val) → shadow (each ℕ (u32 .own) l us) → (i : ℕ) → getD l i 0 < 2 ^ 32
@@ -106,13 +106,13 @@ module _ (store : Store1) (sites : List Site1) (places : ℕ) (request : Request
       → e ≡ edition1
       → (w ≡ storeOf1 store) × ((i : ℕ) → getD (w .shares) i 0 < 2 ^ 32)
       → (a ≡ map widened sites) × LitresFit a
-      → (q ≡ requestOf1 request) × (((i v : ℕ) → q ≡ Change i v → v < 2 ^ 16) × ((f s v : ℕ) → q ≡ Add f s v → v < 2 ^ 16))
+      → (q ≡ requestOf1 request) × Named (2 ^ 16) q
       → Bytes input × Served e w a places q input buffer d last
       → (((i : ℕ) → getD (d .store .shares) i 0 < 2 ^ 32) → storeOf1 held ≡ d .store)
       → (LitresFit (take (d .n) (d .sites)) → map widened (take (d .n) l) ≡ take (d .n) (d .sites))
       → Bytes input × Served1 store sites places request input buffer (record { answer = d .answer; store = held; sites = l; n = d .n }) last
-  widened-serves {q = q} {d} {held} {l} e w a (r, n) (bytes, s) narrows fronts = (
+  widened-serves {d = d} {held} {l} e w a (r, n) (bytes, s) narrows fronts = (
     bytes,
     serves1 d held l (rw (e, w .0, a .0, r) at s) bytes (subst LitresFit (a .0) (a .1))
-        (subst (λ (x : Store). (i : ℕ) → getD (x .shares) i 0 < 2 ^ 32) (w .0) (w .1)) (subst (Named (2 ^ 16)) r (named (2 ^ 16) q (n .0) (n .1))) narrows fronts,
+        (subst (λ (x : Store). (i : ℕ) → getD (x .shares) i 0 < 2 ^ 32) (w .0) (w .1)) (subst (Named (2 ^ 16)) r n) narrows fronts,
   )

@@ -11,6 +11,7 @@ ghost use mathlib.Core.Path.{_≡_};
 ghost use Prim.Native.Nat.{ℕ, _<_, _^_};
 ghost use lib.ListN.{getD};
 ghost use Rattle.records.specs.Bytes.{Bytes};
+ghost use Rattle.store.specs.Widths.{Named};
 ghost use Rattle.edition1.specs.Edition1.{storeOf1, requestOf1, fresh1, Served1};
 
 // Edition 1: the store by its widths, a share in 32 bits.
@@ -119,8 +120,8 @@ fn narrow_store(s: Store) -> Store1
 }
 
 // The request; the litres that it names have 16 bits.
-fn widen_request(q: Request1) -> Request
-    ensures { λ r. ⌜ (r ≡ requestOf1 q) × (((i w : ℕ) → r ≡ Request.Change i w → w < 2 ^ 16) × ((f s w : ℕ) → r ≡ Request.Add f s w → w < 2 ^ 16)) ⌝ }
+pub fn widen_request(q: Request1) -> Request
+    ensures { λ r. ⌜ (r ≡ requestOf1 q) × Named (2 ^ 16) r ⌝ }
 {
     match q {
         Request1::Load => Request::Load,

@@ -1,4 +1,4 @@
--- W, q and w × q by the arrays of the check. Assumes nothing.
+-- W and q by the tables of the check, and their difference. Assumes nothing.
 use mathlib.Core.Path.{_≡_, sym, ap, _∙_, subst}
 use mathlib.Core.Logic.{⊎-elim}
 use mathlib.Core.Bool.{Bool, true, false, cond}
@@ -8,7 +8,7 @@ use native.Mathlib.Nat.{mul-le-mul}
 use native.Mathlib.Omega.{arith}
 use lib.Dec.{T, ltb, ltb→lt, lt→ltb}
 use lib.IntN.{ℤ, pos, negsuc, _-ℤ_}
-use lib.ListN.{length, getD}
+use lib.ListN.{getD}
 use lib.Signed.{mag}
 use borrow.Author.Needs.{sfits-of}
 use mir.Syntax.{w64}
@@ -17,17 +17,17 @@ use mir.ValLaws.{toZ-ofZ, toZ-pos}
 use Rattle.sets.specs.Set.{has, setOf}
 use Rattle.sets.proofs.Test.{T?, T-ext}
 use Rattle.sets.proofs.Member.{setOf-lt, has-setOf, member-lt}
-use Rattle.density.specs.declared.Site.{Site}
-use Rattle.density.specs.Network.{Valid, depotsInRange}
+use Rattle.density.specs.Network.{depotsInRange}
 use Rattle.density.specs.Plan.{place, groupSize, groupLitres}
 use Rattle.density.specs.Figures.{differenceOf}
 use Rattle.density.proofs.Lists.{valid}
 use Rattle.records.specs.declared.ListArray.{ListArray}
 use Rattle.records.specs.declared.PlanArray.{PlanArray}
 use Rattle.records.specs.Values.{listing}
-use Rattle.tables.specs.Tables.{net, groupsIn, Holds, Ready, Tables, Placed, Litres}
-use Rattle.tables.proofs.Sites.{site-is, site-small}
-use Rattle.tables.proofs.Shares.{sites-count, place-lt, sizes-few}
+use Rattle.tables.specs.declared.Form.{Form}
+use Rattle.tables.specs.Tables.{net, groupsIn, Kept}
+use Rattle.tables.proofs.Shares.{place-lt, sizes-few}
+use Rattle.held_state.specs.Values.{heldLitres, heldSize}
 
 -- the set of the listed depots has them
 pub listed-has : (list : ListArray) → T (depotsInRange (listing list)) → (d : ℕ) → has (setOf (net list .listed) 64) d ≡ net list .listed d
@@ -39,42 +39,39 @@ listed-has list h d =
     (λ t. absurd (n (lt→ltb d 64 (valid (listing list) h .small d t)))))
     (T? (ltb d 64))
 
-module _ (list : ListArray) (plan : PlanArray) (r : Ready list plan) where
-  ok : Valid (net list)
-  ok = valid (listing list) (r .counted .range)
+-- ---- the figures of a listed depot
 
-  module _ (places : List ℕ) (long : length places ≡ 64) (h : Holds places (place (groupsIn list plan)) 64) where
-    -- the place of a listed depot is that of a group
-    pub place-is : (d : ℕ) → T (net list .listed d) → (d < 64) × (getD places d 0 ≡ place (groupsIn list plan) d) × (getD places d 0 < plan .count)
-    place-is d t =
-        let l = ok .small d t in
-        (l, h d l, omega (arith, h d l, place-lt list plan r d t))
+module _ (list : ListArray) (plan : PlanArray) (f : Form) (ws : List ℕ) (k : Kept list plan f ws) (d : ℕ) (t : T (has (f .listed) d)) where
+  here : T (net list .listed d)
+  here = rw (k .listed, listed-has list (k .ready .counted .range) d) at t
 
-    pub placed-by : Placed list places
-    placed-by =
-        record {
-          sites = (r .counted .sites, r .places .0);
-          length-places = long;
-          depots = site-small list (r .places .0) (r .counted .sites) (r .counted .range);
-          low = λ i l.
-              let m : i < net list .count = omega (arith, sites-count list plan r) in
-              let x = site-is list (r .places .0) (r .counted .sites) i l in (
-                omega (arith, place-is _ (subst (λ (s : Site). T (net list .listed (s .first))) x (ok .first-listed i m)) .2, r .counted .groups),
-                omega (arith, place-is _ (subst (λ (s : Site). T (net list .listed (s .second))) x (ok .second-listed i m)) .2, r .counted .groups),
-              );
-        }
+  -- the place of a listed depot
+  abbrev at : ℕ
+  at = getD (f .places) d 0
 
-    module _ (d : ℕ) (t : T (net list .listed d)) where
-      pub litres-is : (w : List ℕ) → Litres list places w → getD w (getD places d 0) 0 ≡ groupLitres (net list) (groupsIn list plan) (place (groupsIn list plan) d)
-      litres-is w l =
-          let p = place-is d t in
-          l .is (groupsIn list plan) h (getD places d 0) (omega (arith, p .2, r .counted .groups)) ∙ ap (groupLitres (net list) (groupsIn list plan)) (p .1)
+  pub depot-lt : d < 64
+  depot-lt = valid (listing list) (k .ready .counted .range) .small d here
 
-      pub size-is : (sizes : List ℕ) → Tables list plan places sizes
-          → (getD sizes (getD places d 0) 0 ≡ groupSize (net list) (groupsIn list plan) (place (groupsIn list plan) d)) × (getD sizes (getD places d 0) 0 ≤ 576)
-      size-is sizes s =
-          let p = place-is d t in
-          (s .size (getD places d 0) (p .2) ∙ ap (groupSize (net list) (groupsIn list plan)) (p .1), sizes-few list plan r places sizes s (getD places d 0) (p .2))
+  place-is : at ≡ place (groupsIn list plan) d
+  place-is = k .tables .place d depot-lt
+
+  group-lt : at < plan .count
+  group-lt = omega (arith, place-is, place-lt list plan (k .ready) d here)
+
+  pub at-lt : at < 64
+  at-lt = omega (arith, group-lt, k .ready .counted .groups)
+
+  pub litres-is : getD (f .litres) at 0 ≡ heldLitres list plan d
+  litres-is = k .litres .1 .is (groupsIn list plan) (k .tables .place) at at-lt ∙ ap (groupLitres (net list) (groupsIn list plan)) place-is
+
+  pub litres-low : getD (f .litres) at 0 ≤ 512 * 2 ^ 32
+  litres-low = k .litres .1 .low at at-lt
+
+  pub size-is : getD (f .sizes) at 0 ≡ heldSize list plan d
+  size-is = k .tables .size at group-lt ∙ ap (groupSize (net list) (groupsIn list plan)) place-is
+
+  pub size-low : getD (f .sizes) at 0 ≤ 576
+  size-low = sizes-few list plan (k .ready) (f .places) (f .sizes) (k .tables) at group-lt
 
 -- ---- a difference as a signed number
 

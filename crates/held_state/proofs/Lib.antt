@@ -1,4 +1,5 @@
 pub mod Intact
 pub mod Zero
+pub mod Standing
 pub mod Figures
 pub mod Examples

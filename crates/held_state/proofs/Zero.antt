@@ -1,28 +1,30 @@
 -- Row 0, test by test, on the values. Assumes nothing.
-use mathlib.Core.Path.{_≡_, refl, sym, ap, _∙_}
+use mathlib.Core.Path.{_≡_, refl, sym, ap, ap₂, _∙_}
 use mathlib.Core.Bool.{Bool, true, false, _&&_, _||_}
 use mathlib.Core.List.{List, [], _∷_}
 use Prim.Native.Nat.{ℕ, _≤_, _<_}
 use native.Mathlib.Omega.{arith}
 use borrow.Author.Tests.{lt-ltb, le-ltb}
-use lib.Dec.{ltb}
+use lib.Dec.{ltb, nltb→le, not-T}
 use lib.ListN.{length, getD, take}
 use lib.Seq.{getD-take, length-take-le}
 use Rattle.sets.specs.Sum.{any}
-use Rattle.sets.proofs.Test.{fails}
+use Rattle.sets.proofs.Test.{passes, fails}
 use Rattle.sets.proofs.Sum.{any-from, any-cong}
 use Rattle.density.specs.declared.Site.{Site}
 use Rattle.density.specs.Network.{Listing, network, noSite, siteAt}
 use Rattle.density.specs.Rows.{Row, row, firstRow, planRows}
-use Rattle.records.specs.declared.Edition.{Edition}
+use Rattle.records.specs.declared.ListArray.{ListArray}
 use Rattle.records.specs.declared.PlanArray.{PlanArray}
-use Rattle.records.specs.Values.{Plan}
+use Rattle.records.specs.Values.{Plan, listing, planIn}
 use Rattle.tables.specs.declared.Verdict.the-variants.{Passes, Refused}
 use Rattle.tables.specs.Verdict.{verdict}
-use Rattle.tables.specs.Tables.{Counted}
-use Rattle.held_state.specs.declared.Store.{Store}
-use Rattle.held_state.specs.Held.{State, listOf, planHeld, badSite, badPlan, corrupt, on}
-use Rattle.held_state.proofs.Intact.{listing, good-range}
+use Rattle.tables.specs.Tables.{Counted, Formed, lentPlan}
+use Rattle.tables.specs.declared.Form.{Form}
+use Rattle.held_state.specs.declared.Summary.{Summary}
+use Rattle.held_state.specs.Held.{State, listOf, planHeld, badSite, badPlan, corrupt}
+use Rattle.held_state.specs.Values.{Stands, BadKnown, Examined, refuses}
+use Rattle.held_state.proofs.Intact.{good-range, neither}
 
 -- ---- a verdict on the form
 
@@ -36,90 +38,129 @@ unfolding applies
 one-applies [] = refl
 one-applies (row n b ∷ rows) = one-applies rows
 
-refused-applies : (rows : List Row) (n : ℕ) → verdict (firstRow rows) ≡ Refused n → applies false rows ≡ true
+refused-applies : (rows : List Row) → refuses (verdict (firstRow rows)) ≡ applies false rows
 unfolding firstRow applies
-refused-applies [] n e = absurd (let z : _≡_ {A = ℕ} 0 1 = cc in omega arith)
-refused-applies (row k true ∷ rows) n e = one-applies rows
-refused-applies (row k false ∷ rows) n e = refused-applies rows n e
+refused-applies [] = refl
+refused-applies (row k true ∷ rows) = sym (one-applies rows)
+refused-applies (row k false ∷ rows) = refused-applies rows
 
-passes-applies : (rows : List Row) → verdict (firstRow rows) ≡ Passes → applies false rows ≡ false
-unfolding firstRow applies
-passes-applies [] e = refl
-passes-applies (row k true ∷ rows) e = absurd (let z : _≡_ {A = ℕ} 0 1 = cc in omega arith)
-passes-applies (row k false ∷ rows) e = passes-applies rows e
-
-module _ (l : Listing) (p : Plan) where
-  -- rows 12 to 14
-  abbrev formRows : List Row
-  formRows = take 3 (planRows (network l) (p .groups) (p .shares))
-
-  pub form-bad : (n : ℕ) → verdict (firstRow formRows) ≡ Refused n → badPlan l p ≡ true
-  unfolding applies planRows
-  form-bad n e = refused-applies formRows n e
-
-  pub form-good : verdict (firstRow formRows) ≡ Passes → badPlan l p ≡ false
-  unfolding applies planRows
-  form-good e = passes-applies formRows e
+-- rows 12 to 14 refuse what row 0 calls a bad plan
+pub form-refuses : (l : Listing) (p : Plan) → refuses (verdict (firstRow (take 3 (planRows (network l) (p .groups) (p .shares))))) ≡ badPlan l p
+unfolding applies planRows
+form-refuses l p = refused-applies (take 3 (planRows (network l) (p .groups) (p .shares)))
 
 -- ---- the tests
 
-module _ (store : Store) (sites : List Site) (places : ℕ) (wide : length sites ≡ 512) where
-  abbrev bad : ℕ → Bool
-  bad i = badSite (getD sites i noSite)
+-- more sites than places
+abbrev pub far : ListArray → Summary → Bool
+far list k = ltb 512 (list .count) || ltb (k .places) (list .count)
 
-  -- what a plan's form is tried on
-  pub counted : store .count ≤ 512 → any bad (store .count) ≡ false → (plan : PlanArray) → plan .count ≤ 64
-      → Counted (record { count = store .count; sites = sites }) plan
-  counted few b plan l =
-      let long : length (take (store .count) sites) ≡ store .count = length-take-le (store .count) sites (omega arith) in
+pub near : (list : ListArray) (k : Summary) → far list k ≡ false → (list .count ≤ 512) × (list .count ≤ k .places)
+near list k e =
+    let n = neither (ltb 512 (list .count)) (ltb (k .places) (list .count)) (fails (far list k) e) in
+    (nltb→le 512 (list .count) (not-T (ltb 512 (list .count)) (n .0)), nltb→le (k .places) (list .count) (not-T (ltb (k .places) (list .count)) (n .1)))
+
+-- what a plan's form is tried on
+pub counted : (list : ListArray) (k : Summary) → length (list .sites) ≡ 512 → BadKnown list k → far list k ≡ false → k .bad ≡ false
+    → (plan : PlanArray) → plan .count ≤ 64 → Counted list plan
+counted list k wide marked e b plan l =
+    let n = near list k e in
+    let bad : ℕ → Bool = λ i. badSite (getD (list .sites) i noSite) in
+    let long : length (take (list .count) (list .sites)) ≡ list .count = length-take-le (list .count) (list .sites) (omega (arith, n .0)) in
+    record {
+      sites = n .0;
+      groups = l;
+      range = good-range (listing list)
+          (λ i m t.
+          let here : i < list .count = omega arith in
+          fails (any bad (list .count)) (sym (marked (n .0) (n .1)) ∙ b) (any-from bad (list .count) i here (rw (getD-take (list .count) (list .sites) i noSite here) at t)));
+    }
+
+module _ (s : State) (list : ListArray) (k : Summary) (gs ss : List ℕ) (t : Stands s list k gs ss) where
+  far-is : (ltb 512 (s .store .count) || ltb (length (s .table)) (s .store .count)) ≡ far list k
+  far-is = rw (sym (t .count), sym (t .places))
+
+  zero-far : far list k ≡ true → true ≡ corrupt s
+  unfolding corrupt
+  zero-far e = sym (rw (far-is ∙ e))
+
+  -- the plan held
+  pub plan-is : list .count ≤ 512 → k .grouped ≤ 64 → planIn (lentPlan (k .grouped) gs ss) (list .count) ≡ planHeld s
+  plan-is few l =
+      ap₂ (λ (a b : List ℕ). record { groups = a; shares = b })
+      (t .groups l ∙ ap (λ (n : ℕ). take n (s .store .groups)) (t .grouped))
+      (t .shares few ∙ ap (λ (n : ℕ). take n (s .store .shares)) (t .count))
+
+  -- the list held
+  pub list-is : list .count ≤ 512 → list .count ≤ k .places → listing list ≡ listOf s
+  list-is few room = ap (λ (xs : List Site). record { sites = xs }) (t .sites few room ∙ ap (λ (n : ℕ). take n (s .table)) (t .count))
+
+  module _ (marked : BadKnown list k) (e : far list k ≡ false) where
+    few : list .count ≤ 512
+    few = near list k e .0
+
+    same : listing list ≡ listOf s
+    same = list-is few (near list k e .1)
+
+    bad-is : any (λ i. badSite (siteAt (listOf s) i)) (s .store .count) ≡ k .bad
+    bad-is =
+        ap₂ (λ (l : Listing) (n : ℕ). any (λ i. badSite (siteAt l i)) n) (sym same) (sym (t .count))
+        ∙ any-cong _ _ (list .count) (λ i l. ap badSite (getD-take (list .count) (list .sites) i noSite l))
+        ∙ sym (marked few (near list k e .1))
+
+    -- the tests of the sites and of the plan
+    zero-rest : (b h m : Bool) → k .bad ≡ b → k .held ≡ h → ltb 64 (k .grouped) ≡ m → corrupt s ≡ (b || (h && (m || badPlan (listOf s) (planHeld s))))
+    unfolding corrupt
+    zero-rest b h m x y z = rw (far-is ∙ e, bad-is ∙ x, sym (t .held) ∙ y, ap (ltb 64) (sym (t .grouped)) ∙ z)
+
+    zero-bad : k .bad ≡ true → true ≡ corrupt s
+    zero-bad b = sym (zero-rest true _ _ b refl refl)
+
+    module _ (b : k .bad ≡ false) where
+      zero-none : k .held ≡ false → false ≡ corrupt s
+      zero-none h = sym (zero-rest false false _ b h refl)
+
+      zero-many : k .held ≡ true → 64 < k .grouped → true ≡ corrupt s
+      zero-many h l = sym (zero-rest false true true b h (lt-ltb 64 (k .grouped) l))
+
+      zero-plan : k .held ≡ true → k .grouped ≤ 64 → badPlan (listing list) (planIn (lentPlan (k .grouped) gs ss) (list .count)) ≡ corrupt s
+      zero-plan h l = ap₂ badPlan same (plan-is few l) ∙ sym (zero-rest false true false b h (le-ltb 64 (k .grouped) l))
+
+-- ---- what row 0 finds
+
+module _ (list : ListArray) (k : Summary) (gs ss : List ℕ) (r : Form) (ws : List ℕ) where
+  abbrev plan : PlanArray
+  plan = lentPlan (k .grouped) gs ss
+
+  -- a refusal leaves nothing
+  refused : (n : ℕ) → r .verdict ≡ Refused n → ((s : State) → Stands s list k gs ss → true ≡ corrupt s) → Examined list k plan r ws
+  refused n v z =
       record {
-        sites = few;
-        groups = l;
-        range = good-range (listing (take (store .count) sites))
-            (λ i m t.
-            let n : i < store .count = omega arith in
-            fails (any bad (store .count)) b (any-from bad (store .count) i n (rw (getD-take (store .count) sites i noSite n) at t)));
+        zero = λ s t. ap refuses v ∙ z s t;
+        kept = λ p h. absurd (fails (refuses (r .verdict)) (ap refuses p) (passes (refuses (r .verdict)) (ap refuses v)));
       }
 
-  module _ (e : Edition) where
-    abbrev values : State
-    values = on e store sites
+  pub examined-far : far list k ≡ true → (n : ℕ) → r .verdict ≡ Refused n → Examined list k plan r ws
+  examined-far e n v = refused n v (λ s t. zero-far s list k gs ss t e)
 
-    abbrev zero : Bool
-    zero = ltb places (store .count) || corrupt values
+  module _ (marked : BadKnown list k) (e : far list k ≡ false) where
+    pub examined-bad : k .bad ≡ true → (n : ℕ) → r .verdict ≡ Refused n → Examined list k plan r ws
+    examined-bad b n v = refused n v (λ s t. zero-bad s list k gs ss t marked e b)
 
-    pub zero-beyond : places < store .count → true ≡ zero
-    zero-beyond l = sym (rw (lt-ltb places (store .count) l))
+    module _ (b : k .bad ≡ false) where
+      pub examined-none : k .held ≡ false → r .verdict ≡ Passes → Examined list k plan r ws
+      examined-none h v =
+          record {
+            zero = λ s t. ap refuses v ∙ zero-none s list k gs ss t marked e b h;
+            kept = λ p i. absurd (fails (k .held) h (passes (k .held) i));
+          }
 
-    module _ (room : store .count ≤ places) where
-      pub zero-above : 512 < store .count → true ≡ zero
-      unfolding corrupt
-      zero-above l = sym (rw (le-ltb places (store .count) room, lt-ltb 512 (store .count) l))
+      pub examined-many : k .held ≡ true → 64 < k .grouped → (n : ℕ) → r .verdict ≡ Refused n → Examined list k plan r ws
+      examined-many h l n v = refused n v (λ s t. zero-many s list k gs ss t marked e b h l)
 
-      module _ (few : store .count ≤ 512) where
-        bad-is : any (λ i. badSite (siteAt (listOf values) i)) (store .count) ≡ any bad (store .count)
-        bad-is = any-cong _ _ (store .count) (λ i l. ap badSite (getD-take (store .count) sites i noSite l))
-
-        rest : Bool
-        rest = store .held && (ltb 64 (store .grouped) || badPlan (listOf values) (planHeld values))
-
-        zero-rest : zero ≡ (any bad (store .count) || rest)
-        unfolding corrupt rest
-        zero-rest =
-            rw (le-ltb places (store .count) room, le-ltb 512 (store .count) few, wide, le-ltb 512 (store .count) few, bad-is)
-
-        pub zero-bad : any bad (store .count) ≡ true → true ≡ zero
-        zero-bad b = sym (zero-rest ∙ rw b)
-
-        module _ (b : any bad (store .count) ≡ false) where
-          pub zero-none : store .held ≡ false → false ≡ zero
-          unfolding rest
-          zero-none h = sym (zero-rest ∙ rw (b, h))
-
-          pub zero-many : store .held ≡ true → 64 < store .grouped → true ≡ zero
-          unfolding rest
-          zero-many h l = sym (zero-rest ∙ rw (b, h, lt-ltb 64 (store .grouped) l))
-
-          pub zero-plan : store .held ≡ true → store .grouped ≤ 64 → badPlan (listOf values) (planHeld values) ≡ zero
-          unfolding rest
-          zero-plan h l = sym (zero-rest ∙ rw (b, h, le-ltb 64 (store .grouped) l))
+      pub examined-plan : k .held ≡ true → k .grouped ≤ 64 → Formed list plan r ws → Examined list k plan r ws
+      examined-plan h l f =
+          record {
+            zero = λ s t. ap refuses (f .verdict-is) ∙ form-refuses (listing list) (planIn plan (list .count)) ∙ zero-plan s list k gs ss t marked e b h l;
+            kept = λ p i. f .passed p;
+          }

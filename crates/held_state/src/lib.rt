@@ -1,23 +1,24 @@
-// What a desk holds: its state, row 0, and the figures of a held plan.
+// What a store holds: its state, row 0, and the figures of a held plan.
 use density::Site;
 use records::ListArray;
-use records::PlanArray;
 use records::scan;
+use tables::Form;
 use tables::Verdict;
 ghost use mathlib.Core.Path.{_≡_};
-ghost use mathlib.Core.Bool.{_&&_, _||_};
-ghost use Prim.Native.Nat.{_*_, _^_, _<_, _≤_};
-ghost use lib.Dec.{T, ltb};
+ghost use mathlib.Core.List.{List};
+ghost use Prim.Native.Nat.{ℕ, _*_, _^_, _<_, _≤_};
+ghost use lib.Dec.{T};
 ghost use lib.IntN.{pos, _-ℤ_};
-ghost use lib.ListN.{getD, take};
+ghost use lib.ListN.{length, getD};
+ghost use Rattle.sets.specs.Set.{has};
 ghost use Rattle.sets.specs.Sum.{any};
-ghost use Rattle.density.specs.Network.{noSite, depotsInRange};
-ghost use Rattle.density.specs.Plan.{place, groupSize, groupLitres, whole};
+ghost use Rattle.density.specs.Network.{noSite};
 ghost use Rattle.density.specs.Figures.{differenceOf};
-ghost use Rattle.records.specs.declared.Edition.{Edition};
-ghost use Rattle.records.specs.Values.{listing, planIn};
-ghost use Rattle.tables.specs.Tables.{net, groupsIn, Counted, Ready};
-ghost use Rattle.held_state.specs.Held.{on, badSite, badPlan, corrupt};
+ghost use Rattle.records.specs.declared.ListArray.{ListArray};
+ghost use Rattle.records.specs.declared.PlanArray.{PlanArray};
+ghost use Rattle.tables.specs.Tables.{Kept, lentPlan};
+ghost use Rattle.held_state.specs.Held.{State, badSite, corrupt};
+ghost use Rattle.held_state.specs.Values.{BadKnown, Stands, Examined, heldLitres, heldSize};
 
 // What is held beside the table: how many of its places are sites, and a plan or none.
 pub struct Store {
@@ -28,27 +29,28 @@ pub struct Store {
     pub shares: [u64; 512],
 }
 
+// What a call goes by beside the held sites and the arrays of the plan: the places of the table, whether a plan is held and of how many groups, and whether rows 5 or 6 refuse a held site.
+pub struct Summary {
+    pub places: usize,
+    pub held: bool,
+    pub grouped: usize,
+    pub bad: bool,
+}
+
+// W and q of a depot's group.
+pub struct GroupFigures {
+    pub litres: u64,
+    pub size: u64,
+}
+
 // A difference, with its divisor.
 pub struct Difference {
     pub value: i64,
     pub divisor: u64,
 }
 
-// The plan held, as a value.
-pub fn plan_held(store: Store) -> PlanArray
-    ensures { λ r. ⌜ r ≡ record { count = store .grouped; groups = store .groups; shares = store .shares } ⌝ }
-{
-    let groups = store.groups;
-    let shares = store.shares;
-    PlanArray {
-        count: store.grouped,
-        groups,
-        shares,
-    }
-}
-
 // Do rows 5 or 6 refuse the site?
-fn is_bad(x: Site) -> bool
+pub fn is_bad(x: Site) -> bool
     ensures { λ r. ⌜ r ≡ badSite x ⌝ }
 {
     let depots = scan::either(63 < x.first, 63 < x.second);
@@ -56,7 +58,7 @@ fn is_bad(x: Site) -> bool
 }
 
 // Do they refuse one of the first n sites?
-fn is_any_bad(sites: [Site; 512], n: usize) -> bool
+pub fn is_any_bad(sites: [Site; 512], n: usize) -> bool
     requires { ⌜ n ≤ 512 ⌝ }
     ensures { λ r. ⌜ r ≡ any (λ i. badSite (getD sites i noSite)) n ⌝ }
 {
@@ -71,100 +73,69 @@ fn is_any_bad(sites: [Site; 512], n: usize) -> bool
     false
 }
 
-// Do rows 12 to 14 refuse the plan?
-fn is_plan_bad(count: usize, sites: [Site; 512], plan: PlanArray) -> bool
-    requires { ⌜ Counted (record { count = count; sites = sites }) plan ⌝ }
-    ensures { λ r. ⌜ r ≡ badPlan (record { sites = take count sites }) (planIn plan count) ⌝ }
+// What row 0 leaves without a held plan: no tables.
+fn without_tables(verdict: Verdict) -> Form
+    ensures { λ r. ⌜ r .verdict ≡ verdict ⌝ }
 {
-    let list = ListArray { count, sites };
-    match verify::form_row(list, plan) {
+    Form {
+        verdict,
+        listed: 0,
+        places: [0; 64],
+        sizes: [0; 64],
+        litres: [0; 64],
+    }
+}
+
+// Row 0, and the tables of the plan held; w × q of each site goes to `wholes`.
+pub fn examine(
+    list: ListArray,
+    known: Summary,
+    groups: &[u64],
+    shares: &[u64],
+    wholes: &mut [u64],
+) -> Form
+    requires { ⌜ (length (now groups) ≡ 64) × (length (now shares) ≡ 512) × (length (now wholes) ≡ 512) × BadKnown list known ⌝ }
+    ensures { λ r. ⌜ Examined list known (lentPlan (known .grouped) (now (groups .entry)) (now (shares .entry))) r (now (wholes .exit)) ⌝ }
+{
+    if scan::either(512 < list.count, known.places < list.count) {
+        return without_tables(Verdict::Refused(0));
+    }
+    if known.bad {
+        return without_tables(Verdict::Refused(0));
+    }
+    if !known.held {
+        return without_tables(Verdict::Passes);
+    }
+    if 64 < known.grouped {
+        return without_tables(Verdict::Refused(0));
+    }
+    verify::try_form(list, known.grouped, groups, shares, wholes)
+}
+
+// Row 0.
+pub fn is_corrupt(list: ListArray, known: Summary, groups: &[u64], shares: &[u64]) -> bool
+    requires { ⌜ (length (now groups) ≡ 64) × (length (now shares) ≡ 512) × BadKnown list known ⌝ }
+    ensures { λ r. ⌜ ((s : State) → Stands s list known (now (groups .entry)) (now (shares .entry)) → r ≡ corrupt s) ⌝ }
+{
+    let mut wholes = [0u64; 512];
+    let f = examine(list, known, groups, shares, &mut wholes);
+    let verdict = f.verdict;
+    match verdict {
         Verdict::Passes => false,
         Verdict::Refused(_) => true,
     }
 }
 
-// Row 0.
-pub fn is_corrupt(store: Store, sites: [Site; 512], places: usize) -> bool
-    ensures { λ r. ⌜ ((e : Edition) → r ≡ (ltb places (store .count) || corrupt (on e store sites))) ⌝ }
+// W and q of a listed depot, from the tables.
+pub fn figures_of(f: Form, d: u8) -> GroupFigures
+    requires { ⌜ ((list : ListArray) × (plan : PlanArray) × (ws : List ℕ) × Kept list plan f ws) × T (has (f .listed) d) ⌝ }
+    ensures { λ r. ⌜ ((list : ListArray) (plan : PlanArray) (ws : List ℕ) → Kept list plan f ws → (r .litres ≡ heldLitres list plan d) × (r .size ≡ heldSize list plan d)) × (r .litres ≤ 512 * 2 ^ 32) × (r .size ≤ 576) ⌝ }
 {
-    let count = store.count;
-    if places < count {
-        return true;
+    let k = f.places[d as usize] as usize;
+    GroupFigures {
+        litres: f.litres[k],
+        size: f.sizes[k],
     }
-    if 512 < count {
-        return true;
-    }
-    if is_any_bad(sites, count) {
-        return true;
-    }
-    if !store.held {
-        return false;
-    }
-    let plan = plan_held(store);
-    if 64 < plan.count {
-        return true;
-    }
-    is_plan_bad(count, sites, plan)
-}
-
-// Is the depot listed?
-pub fn is_listed(list: ListArray, d: u8) -> bool
-    requires { ⌜ (list .count ≤ 512) × T (depotsInRange (listing list)) ⌝ }
-    ensures { λ r. ⌜ r ≡ net list .listed d ⌝ }
-{
-    sets::contains(tables::listed(list), d)
-}
-
-// Are both depots listed?
-pub fn are_listed(list: ListArray, a: u8, b: u8) -> bool
-    requires { ⌜ (list .count ≤ 512) × T (depotsInRange (listing list)) ⌝ }
-    ensures { λ r. ⌜ r ≡ (net list .listed a && net list .listed b) ⌝ }
-{
-    if is_listed(list, a) {
-        is_listed(list, b)
-    } else {
-        false
-    }
-}
-
-// W of a depot's group.
-pub fn litres_at(list: ListArray, plan: PlanArray, d: u8) -> u64
-    requires { ⌜ Ready list plan × T (net list .listed d) ⌝ }
-    ensures { λ r. ⌜ (r ≡ groupLitres (net list) (groupsIn list plan) (place (groupsIn list plan) d)) × (r ≤ 512 * 2 ^ 32) ⌝ }
-{
-    let n = plan.count;
-    let sets = plan.groups;
-    let groups = &sets[..n];
-    let at = tables::places(groups);
-    let w = tables::litres(list, &at);
-    w[at[d as usize] as usize]
-}
-
-// q of a depot's group, up to 576 over crews (`Parts` in `tables/specs`).
-pub fn size_at(list: ListArray, plan: PlanArray, d: u8) -> u64
-    requires { ⌜ Ready list plan × T (net list .listed d) ⌝ }
-    ensures { λ r. ⌜ (r ≡ groupSize (net list) (groupsIn list plan) (place (groupsIn list plan) d)) × (r ≤ 576) ⌝ }
-{
-    let n = plan.count;
-    let sets = plan.groups;
-    let groups = &sets[..n];
-    let at = tables::places(groups);
-    let q = tables::sizes(groups);
-    q[at[d as usize] as usize]
-}
-
-// w × q of a site.
-pub fn whole_at(list: ListArray, plan: PlanArray, i: usize) -> u64
-    requires { ⌜ Ready list plan × (i < list .count) ⌝ }
-    ensures { λ r. ⌜ r ≡ whole (net list) (groupsIn list plan) i ⌝ }
-{
-    let n = plan.count;
-    let sets = plan.groups;
-    let groups = &sets[..n];
-    let at = tables::places(groups);
-    let q = tables::sizes(groups);
-    let s = list.sites[i];
-    tables::whole(s, &at, &q)
 }
 
 // The difference of two numbers, below zero where the first is less.
@@ -175,17 +146,15 @@ fn less(x: u64, y: u64) -> i64
     (x as i64) - (y as i64)
 }
 
-// The difference of two depots.
-pub fn difference_at(list: ListArray, plan: PlanArray, a: u8, b: u8) -> Difference
-    requires { ⌜ Ready list plan × T (net list .listed a) × T (net list .listed b) ⌝ }
-    ensures { λ r. ⌜ (r .value ≡ differenceOf (groupLitres (net list) (groupsIn list plan) (place (groupsIn list plan) a)) (groupSize (net list) (groupsIn list plan) (place (groupsIn list plan) a)) (groupLitres (net list) (groupsIn list plan) (place (groupsIn list plan) b)) (groupSize (net list) (groupsIn list plan) (place (groupsIn list plan) b))) × (r .divisor ≡ groupSize (net list) (groupsIn list plan) (place (groupsIn list plan) a) * groupSize (net list) (groupsIn list plan) (place (groupsIn list plan) b)) ⌝ }
+// The difference of two listed depots, from the tables.
+pub fn difference_of(f: Form, a: u8, b: u8) -> Difference
+    requires { ⌜ ((list : ListArray) × (plan : PlanArray) × (ws : List ℕ) × Kept list plan f ws) × T (has (f .listed) a) × T (has (f .listed) b) ⌝ }
+    ensures { λ r. ⌜ ((list : ListArray) (plan : PlanArray) (ws : List ℕ) → Kept list plan f ws → (r .value ≡ differenceOf (heldLitres list plan a) (heldSize list plan a) (heldLitres list plan b) (heldSize list plan b)) × (r .divisor ≡ heldSize list plan a * heldSize list plan b)) ⌝ }
 {
-    let wa = litres_at(list, plan, a);
-    let qa = size_at(list, plan, a);
-    let wb = litres_at(list, plan, b);
-    let qb = size_at(list, plan, b);
+    let x = figures_of(f, a);
+    let y = figures_of(f, b);
     Difference {
-        value: less(wa * qb, wb * qa),
-        divisor: qa * qb,
+        value: less(x.litres * y.size, y.litres * x.size),
+        divisor: x.size * y.size,
     }
 }

@@ -1,76 +1,95 @@
--- The desk's store and its table as bytes that the caller lends. Document 01: "stored numbers are unsigned, low byte first".
+-- The desk's store and its table as bytes that the caller lends, by the width of a share and of a site's litres. Document 01: "stored numbers are unsigned, low byte first".
 use mathlib.Core.Path.{_≡_}
-use mathlib.Core.Bool.{Bool, false, cond, _&&_}
+use mathlib.Core.Bool.{Bool, false, cond}
 use mathlib.Core.List.{List, _++_, map, flatMap}
-use Prim.Native.Nat.{ℕ, _/_}
+use Prim.Native.Nat.{ℕ, _+_, _*_, _/_, _%_, _<_, _≤_, _^_}
 use lib.Dec.{eqb, leb}
-use lib.ListN.{length, take, drop, replicate}
+use lib.ListN.{length, take, drop, getD, replicate}
 use Rattle.density.specs.declared.Site.{Site}
+use Rattle.density.specs.Network.{noSite}
 use Rattle.records.specs.Bytes.{le, value, field}
 use Rattle.records.specs.Record.{records}
 use Rattle.records.specs.Write.{onto}
-use Rattle.table.specs.declared.Site1.{Site1}
 use Rattle.table.specs.Table.{overlay}
-use Rattle.table.specs.Widths.{widened}
 use Rattle.held_state.specs.declared.Store.{Store}
-use Rattle.edition1.specs.declared.Store1.{Store1}
-use Rattle.edition1.specs.Edition1.{storeOf1}
+use Rattle.layout.specs.declared.Header.{Header}
 
--- A store is 2,584 bytes: the number of sites (8), whether a plan is held (8; 0 or 1), the number of groups (8), its "64 places for groups" (8 each)
--- and "512 places for shares" (4 each).
-unfoldable pub storeBytes : Store → List ℕ
-storeBytes s =
+-- A store: the number of sites (8), whether a plan is held (8; 0 or 1), the number of groups (8), "its 64 places for groups" (8 each) and "512 places for
+-- shares", w bytes each: 2,584 bytes with shares of 4 bytes, 4,632 with shares of 8.
+abbrev pub storeSize : ℕ → ℕ
+storeSize w = 536 + w * 512
+
+unfoldable pub storeBytes : ℕ → Store → List ℕ
+storeBytes w s =
     le 8 (s .count)
     ++ (le 8 (cond (s .held) 1 0)
     ++ (le 8 (s .grouped)
     ++ (flatMap (le 8) (s .groups)
-    ++ flatMap (le 4) (s .shares))))
+    ++ flatMap (le w) (s .shares))))
 
 -- the n numbers of w bytes each from a place of s on
 abbrev pub numbers : ℕ → ℕ → ℕ → List ℕ → List ℕ
 numbers w n at s = map value (records w n (drop at s))
 
-abbrev pub storeAt : List ℕ → Store1
-storeAt s =
+abbrev pub storeAt : ℕ → List ℕ → Store
+storeAt w s =
     record {
       count = field s 0 8;
       held = eqb (field s 8 8) 1;
       grouped = field s 16 8;
       groups = numbers 8 64 24 s;
-      shares = numbers 4 512 536 s;
+      shares = numbers w 512 536 s;
     }
 
-abbrev pub isSized : List ℕ → Bool
-isSized s = eqb (length s) 2584
+abbrev pub isSized : ℕ → List ℕ → Bool
+isSized w s = eqb (length s) (storeSize w)
 
--- Bytes of another length, or whose held number is neither 0 nor 1, are no store: they read as one that row 0 refuses.
-abbrev pub noStore : Store1
+-- Bytes whose held number is neither 0 nor 1 read as a store that row 0 refuses.
+abbrev pub noStore : Store
 noStore = record { count = 513; held = false; grouped = 0; groups = replicate 64 0; shares = replicate 512 0 }
 
-unfoldable pub storeIn : List ℕ → Store1
-storeIn s = cond (isSized s && leb (field s 8 8) 1) (storeAt s) noStore
+unfoldable pub storeIn : ℕ → List ℕ → Store
+storeIn w s = cond (leb (field s 8 8) 1) (storeAt w s) noStore
 
--- A place of a table is 4 bytes: first depot (1), second depot (1), litres (2). Bytes behind the last whole place belong to no place.
-abbrev pub placeBytes : Site → List ℕ
-placeBytes x = le 1 (x .first) ++ (le 1 (x .second) ++ le 2 (x .litres))
+-- A place of a table: first depot (1), second depot (1), litres (w). Bytes behind the last whole place belong to no place.
+abbrev pub placeSize : ℕ → ℕ
+placeSize w = 2 + w
 
-abbrev pub placeIn : List ℕ → Site1
-placeIn r = record { first = field r 0 1; second = field r 1 1; litres = field r 2 2 }
+abbrev pub placeBytes : ℕ → Site → List ℕ
+placeBytes w x = le 1 (x .first) ++ (le 1 (x .second) ++ le w (x .litres))
 
-unfoldable pub sitesIn : List ℕ → List Site1
-sitesIn t = map placeIn (records 4 (length t / 4) t)
+abbrev pub placeIn : ℕ → List ℕ → Site
+placeIn w r = record { first = field r 0 1; second = field r 1 1; litres = field r 2 w }
+
+-- the site of a place whose bytes are this number
+abbrev pub siteOfNumber : ℕ → Site
+siteOfNumber b = record { first = b % 256; second = b / 256 % 256; litres = b / 65536 }
+
+abbrev pub placesIn : ℕ → List ℕ → ℕ
+placesIn w t = length t / placeSize w
+
+unfoldable pub sitesIn : ℕ → List ℕ → List Site
+sitesIn w t = map (placeIn w) (records (placeSize w) (placesIn w t) t)
 
 -- the bytes of a table whose places have these sites
-abbrev pub tableOver : List Site → List ℕ → List ℕ
-tableOver sites t = onto (flatMap placeBytes sites) t
+abbrev pub tableOver : ℕ → List Site → List ℕ → List ℕ
+tableOver w sites t = onto (flatMap (placeBytes w) sites) t
 
--- What the writers leave, and that it reads back.
-pub record PutStore (s : Store1) (last : List ℕ) : Type 0 where
-  pub bytes : last ≡ storeBytes (storeOf1 s)
-  pub reads : storeIn last ≡ s
+-- What is read of a store: its first words, and as many groups and shares as they say.
+pub record StoreRead (w : ℕ) (s : List ℕ) (r : Header) (gs ss : List ℕ) : Type 0 where
+  pub count : r .count ≡ storeIn w s .count
+  pub held : r .held ≡ storeIn w s .held
+  pub grouped : r .grouped ≡ storeIn w s .grouped
+  pub groups : r .grouped ≤ 64 → take (r .grouped) gs ≡ take (r .grouped) (storeIn w s .groups)
+  pub shares : r .count ≤ 512 → take (r .count) ss ≡ take (r .count) (storeIn w s .shares)
 
-pub record PutSites (n : ℕ) (sites : List Site1) (t last : List ℕ) : Type 0 where
-  pub bytes : last ≡ tableOver (take n (map widened sites)) t
-  pub reads : sitesIn last ≡ overlay n sites (sitesIn t)
+-- What the writers leave, and that it reads back where the figures have the width.
+pub record PutStore (w : ℕ) (s : Store) (last : List ℕ) : Type 0 where
+  pub bytes : last ≡ storeBytes w s
+  pub reads : ((i : ℕ) → getD (s .shares) i 0 < 256 ^ w) → storeIn w last ≡ s
+
+pub record PutSites (w n : ℕ) (sites : List Site) (t last : List ℕ) : Type 0 where
+  pub bytes : last ≡ tableOver w (take n sites) t
+  pub reads : ((i : ℕ) → i < n → getD sites i noSite .litres < 256 ^ w) → sitesIn w last ≡ overlay n sites (sitesIn w t)
   -- by its type
   pub many : length sites ≡ 512

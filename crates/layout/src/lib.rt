@@ -1,206 +1,273 @@
-// The store and the table of edition 1 laid in bytes: what bytes stand for, and what is written over them.
-use edition1::Store1;
+// The store and the table laid in bytes, by the width of a share and of a site's litres: what bytes stand for, and what is written over them.
+// Numbers and places are read and written one after another by loops over a width; the width of edition 1 is given to them as a constant.
+use density::Site;
+use held_state::is_bad;
+use records::ListArray;
 use records::number::field;
-use table::Site1;
+use records::scan::either;
 use table::capacity;
 use writers::number_at;
 ghost use mathlib.Core.Path.{_≡_};
-ghost use mathlib.Core.Bool.{cond};
+ghost use mathlib.Core.Bool.{true};
 ghost use mathlib.Core.List.{flatMap};
-ghost use Prim.Native.Nat.{_≤_, _+_, _*_};
-ghost use lib.ListN.{length, take, drop};
+ghost use Prim.Native.Nat.{ℕ, _<_, _≤_, _+_, _*_, _-_, _^_, min};
+ghost use lib.ListN.{length, take, drop, getD, replicate};
+ghost use Rattle.sets.specs.Sum.{any};
+ghost use Rattle.density.specs.Network.{noSite};
 ghost use Rattle.records.specs.Bytes.{le};
 ghost use Rattle.records.specs.Write.{place, onto};
-ghost use Rattle.table.specs.Table.{heldOf};
-ghost use Rattle.table.specs.Widths.{noSite1, widened};
-ghost use Rattle.layout.specs.Layout.{noStore, numbers, storeIn, placeBytes, placeIn, sitesIn, PutStore, PutSites};
+ghost use Rattle.held_state.specs.Held.{badSite};
+ghost use Rattle.store.specs.State.{bare};
+ghost use Rattle.layout.specs.Layout.{storeSize, placeSize, placesIn, numbers, placeBytes, placeIn, sitesIn, tableOver, siteOfNumber, StoreRead, PutStore, PutSites};
 
-// What bytes that are no store read as: more sites than a desk can hold.
-fn no_store() -> Store1
-    ensures { λ r. ⌜ r ≡ noStore ⌝ }
-{
-    Store1 {
-        count: 513,
-        held: false,
-        grouped: 0,
-        groups: [0; 64],
-        shares: [0; 512],
-    }
+// The first words of a store: how many sites it has, whether a plan is held, and of how many groups.
+pub struct Header {
+    pub count: usize,
+    pub held: bool,
+    pub grouped: usize,
 }
 
-// The group sets of a store.
-fn groups_in(s: &[u8]) -> [u64; 64]
-    requires { ⌜ 2584 ≤ length (now s) ⌝ }
-    ensures { λ r. ⌜ r ≡ numbers 8 64 24 (now (s .entry)) ⌝ }
+// The smaller of two.
+fn least(a: usize, b: usize) -> usize
+    ensures { λ r. ⌜ r ≡ min a b ⌝ }
 {
-    let mut a = [0u64; 64];
-    let mut i: usize = 0;
-    while i < 64 {
-        a[i] = field(s, 24 + 8 * i, 8);
+    if a < b { a } else { b }
+}
+
+// Reads numbers of `w` bytes from a place of `s` on, one for each place of `out`.
+fn numbers_by(out: &mut [u64], s: &[u8], from: usize, w: usize)
+    requires { ⌜ (w ≤ 8) × (from + w * length (now out) ≤ length (now s)) ⌝ }
+    ensures { λ _. ⌜ now (out .exit) ≡ numbers w (length (now (out .entry))) from (now (s .entry)) ⌝ }
+{
+    let mut at = from;
+    let mut i = 0;
+    while i < out.len() {
+        out[i] = field(s, at, w);
+        at += w;
         i += 1;
     }
-    a
 }
 
-// The shares of a store.
-fn shares_in(s: &[u8]) -> [u32; 512]
-    requires { ⌜ 2584 ≤ length (now s) ⌝ }
-    ensures { λ r. ⌜ r ≡ numbers 4 512 536 (now (s .entry)) ⌝ }
+// The same; the width of edition 1's shares is a constant of its call.
+fn numbers_in(out: &mut [u64], s: &[u8], from: usize, w: usize)
+    requires { ⌜ (w ≤ 8) × (from + w * length (now out) ≤ length (now s)) ⌝ }
+    ensures { λ _. ⌜ now (out .exit) ≡ numbers w (length (now (out .entry))) from (now (s .entry)) ⌝ }
 {
-    let mut a = [0u32; 512];
-    let mut i: usize = 0;
-    while i < 512 {
-        let x = field(s, 536 + 4 * i, 4);
-        a[i] = x as u32;
-        i += 1;
+    if w == 4 {
+        return numbers_by(out, s, from, 4);
     }
-    a
+    numbers_by(out, s, from, w)
 }
 
-// The store that bytes stand for.
-pub fn store_in(s: &[u8]) -> Store1
-    ensures { λ r. ⌜ r ≡ storeIn (now (s .entry)) ⌝ }
+// Reads a store: its first words, and as many groups and shares as they say.
+pub fn store_in(s: &[u8], w: usize, groups: &mut [u64], shares: &mut [u64]) -> Header
+    requires { ⌜ (w ≤ 8) × (length (now s) ≡ storeSize w) × (length (now groups) ≡ 64) × (length (now shares) ≡ 512) ⌝ }
+    ensures { λ r. ⌜ StoreRead w (now (s .entry)) r (now (groups .exit)) (now (shares .exit)) ⌝ }
 {
-    if s.len() != 2584 {
-        return no_store();
-    }
     let held = field(s, 8, 8);
     if 1 < held {
-        return no_store();
+        return Header {
+            count: 513,
+            held: false,
+            grouped: 0,
+        };
     }
     let count = field(s, 0, 8) as usize;
     let grouped = field(s, 16, 8) as usize;
-    let groups = groups_in(s);
-    let shares = shares_in(s);
-    Store1 {
+    let g = least(grouped, 64);
+    let n = least(count, 512);
+    numbers_in(&mut groups[..g], s, 24, 8);
+    numbers_in(&mut shares[..n], s, 536, w);
+    Header {
         count,
         held: held == 1,
         grouped,
-        groups,
-        shares,
     }
 }
 
-// Writes the group sets to the front of `out`.
-fn put_groups(out: &mut [u8], groups: [u64; 64])
-    requires { ⌜ 512 ≤ length (now out) ⌝ }
-    ensures { λ _. ⌜ now (out .exit) ≡ onto (flatMap (le 8) groups) (now (out .entry)) ⌝ }
+// What a place without a site holds. As a function's answer it is one number to the compiler, which then fills 512 places at once.
+fn no_site() -> Site
+    ensures { λ r. ⌜ r ≡ noSite ⌝ }
 {
-    let mut i: usize = 0;
-    let mut at: usize = 0;
-    while i < 64 {
-        number_at(out, at, 8, groups[i]);
-        at += 8;
-        i += 1;
-    }
-}
-
-// Writes the shares to the front of `out`.
-fn put_shares(out: &mut [u8], shares: [u32; 512])
-    requires { ⌜ 2048 ≤ length (now out) ⌝ }
-    ensures { λ _. ⌜ now (out .exit) ≡ onto (flatMap (le 4) shares) (now (out .entry)) ⌝ }
-{
-    let mut i: usize = 0;
-    let mut at: usize = 0;
-    while i < 512 {
-        let x = shares[i];
-        number_at(out, at, 4, x as u64);
-        at += 4;
-        i += 1;
-    }
-}
-
-// 1 for true and 0 for false.
-fn bit(b: bool) -> u64
-    ensures { λ r. ⌜ r ≡ cond b 1 0 ⌝ }
-{
-    if b { 1 } else { 0 }
-}
-
-// Writes a store over its bytes, part by part.
-fn put_parts(
-    out: &mut [u8],
-    count: usize,
-    held: bool,
-    grouped: usize,
-    groups: [u64; 64],
-    shares: [u32; 512],
-)
-    requires { ⌜ length (now out) ≡ 2584 ⌝ }
-    ensures { λ _. ⌜ PutStore (record { count = count; held = held; grouped = grouped; groups = groups; shares = shares }) (now (out .exit)) ⌝ }
-{
-    number_at(out, 0, 8, count as u64);
-    number_at(out, 8, 8, bit(held));
-    number_at(out, 16, 8, grouped as u64);
-    put_groups(&mut out[24..], groups);
-    put_shares(&mut out[536..], shares);
-}
-
-// Writes a store over its bytes.
-pub fn put_store(out: &mut [u8], s: Store1)
-    requires { ⌜ length (now out) ≡ 2584 ⌝ }
-    ensures { λ _. ⌜ PutStore s (now (out .exit)) ⌝ }
-{
-    let groups = s.groups;
-    let shares = s.shares;
-    put_parts(out, s.count, s.held, s.grouped, groups, shares);
-}
-
-// The site at a place of a table's bytes.
-fn site_in(t: &[u8], at: usize) -> Site1
-    requires { ⌜ at + 4 ≤ length (now t) ⌝ }
-    ensures { λ r. ⌜ r ≡ placeIn (take 4 (drop at (now (t .entry)))) ⌝ }
-{
-    let first = field(t, at, 1) as u8;
-    let second = field(t, at + 1, 1) as u8;
-    let litres = field(t, at + 2, 2) as u16;
-    Site1 {
-        first,
-        second,
-        litres,
-    }
-}
-
-// Copy in: as many places of the table as can hold sites, and blank places after them.
-pub fn sites_in(t: &[u8]) -> [Site1; 512]
-    ensures { λ r. ⌜ r ≡ heldOf noSite1 (sitesIn (now (t .entry))) ⌝ }
-{
-    let count = capacity(t.len() / 4);
-    let mut a = [Site1 {
+    Site {
         first: 0,
         second: 0,
         litres: 0,
-    }; 512];
+    }
+}
+
+// A site, from the number that its place's bytes are.
+fn site_of(body: u64) -> Site
+    requires { ⌜ body < 2 ^ 48 ⌝ }
+    ensures { λ r. ⌜ r ≡ siteOfNumber body ⌝ }
+{
+    Site {
+        first: (body % 256) as u8,
+        second: (body / 256 % 256) as u8,
+        litres: (body / 65536) as u32,
+    }
+}
+
+// The site at a place of a table's bytes.
+pub fn site_in(t: &[u8], at: usize, w: usize) -> Site
+    requires { ⌜ (w ≤ 4) × (at + placeSize w ≤ length (now t)) ⌝ }
+    ensures { λ r. ⌜ r ≡ placeIn w (take (placeSize w) (drop at (now (t .entry)))) ⌝ }
+{
+    site_of(field(t, at, 2 + w))
+}
+
+// The sites of the first n places, each of `size` bytes.
+fn list_by(t: &[u8], size: usize, n: usize) -> ListArray
+    requires { ⌜ (2 ≤ size) × (size ≤ 6) ⌝ }
+    ensures { λ r. ⌜ (r .count ≡ n) × (n ≤ 512 → n ≤ placesIn (size - 2) (now (t .entry)) → take n (r .sites) ≡ take n (sitesIn (size - 2) (now (t .entry)))) ⌝ }
+{
+    let places = least(n, capacity(t.len() / size));
+    let none = no_site();
+    let mut sites = [none; 512];
     let mut i: usize = 0;
-    while i < count {
-        let x = site_in(t, 4 * i);
-        a[i] = x;
+    let mut at: usize = 0;
+    while i < places {
+        sites[i] = site_of(field(t, at, size));
+        at += size;
         i += 1;
     }
-    a
+    ListArray { count: n, sites }
+}
+
+// The list of the first n places.
+pub fn list_in(t: &[u8], w: usize, n: usize) -> ListArray
+    requires { ⌜ w ≤ 4 ⌝ }
+    ensures { λ r. ⌜ (r .count ≡ n) × (n ≤ 512 → n ≤ placesIn w (now (t .entry)) → take n (r .sites) ≡ take n (sitesIn w (now (t .entry)))) ⌝ }
+{
+    if w == 2 {
+        return list_by(t, 4, n);
+    }
+    list_by(t, 2 + w, n)
+}
+
+// Is one of the first n places, each of `size` bytes, a bad site?
+fn bad_by(t: &[u8], size: usize, n: usize) -> bool
+    requires { ⌜ (2 ≤ size) × (size ≤ 6) ⌝ }
+    ensures { λ r. ⌜ (n ≤ 512 → n ≤ placesIn (size - 2) (now (t .entry)) → r ≡ any (λ i. badSite (getD (sitesIn (size - 2) (now (t .entry))) i noSite)) n) ⌝ }
+{
+    let count = least(n, capacity(t.len() / size));
+    let mut bad = false;
+    let mut i: usize = 0;
+    let mut at: usize = 0;
+    while i < count {
+        let x = site_of(field(t, at, size));
+        bad = either(bad, is_bad(x));
+        at += size;
+        i += 1;
+    }
+    bad
+}
+
+// Do rows 5 or 6 refuse one of the first n sites?
+pub fn is_any_bad(t: &[u8], w: usize, n: usize) -> bool
+    requires { ⌜ w ≤ 4 ⌝ }
+    ensures { λ r. ⌜ (n ≤ 512 → n ≤ placesIn w (now (t .entry)) → r ≡ any (λ i. badSite (getD (sitesIn w (now (t .entry))) i noSite)) n) ⌝ }
+{
+    if w == 2 {
+        return bad_by(t, 4, n);
+    }
+    bad_by(t, 2 + w, n)
+}
+
+// Writes numbers of `w` bytes, one behind the other, to the front of `out`.
+fn put_numbers(out: &mut [u8], w: usize, xs: &[u64])
+    requires { ⌜ w * length (now xs) ≤ length (now out) ⌝ }
+    ensures { λ _. ⌜ now (out .exit) ≡ onto (flatMap (le w) (now (xs .entry))) (now (out .entry)) ⌝ }
+{
+    let mut i = 0;
+    let mut at = 0;
+    while i < xs.len() {
+        number_at(out, at, w, xs[i]);
+        at += w;
+        i += 1;
+    }
+}
+
+// All bytes become zero.
+fn clear(out: &mut [u8])
+    ensures { λ _. ⌜ now (out .exit) ≡ replicate (length (now (out .entry))) 0 ⌝ }
+{
+    let mut i = 0;
+    while i < out.len() {
+        out[i] = 0;
+        i += 1;
+    }
+}
+
+// Writes a store of n sites that holds no plan.
+pub fn put_bare(out: &mut [u8], w: usize, n: usize)
+    requires { ⌜ length (now out) ≡ storeSize w ⌝ }
+    ensures { λ _. ⌜ PutStore w (bare n) (now (out .exit)) ⌝ }
+{
+    number_at(out, 0, 8, n as u64);
+    clear(&mut out[8..]);
+}
+
+// Writes a store that holds a plan.
+pub fn put_plan(
+    out: &mut [u8],
+    w: usize,
+    count: usize,
+    grouped: usize,
+    groups: &[u64],
+    shares: &[u64],
+)
+    requires { ⌜ (length (now out) ≡ storeSize w) × (length (now groups) ≡ 64) × (length (now shares) ≡ 512) ⌝ }
+    ensures { λ _. ⌜ PutStore w (record { count = count; held = true; grouped = grouped; groups = now (groups .entry); shares = now (shares .entry) }) (now (out .exit)) ⌝ }
+{
+    number_at(out, 0, 8, count as u64);
+    number_at(out, 8, 8, 1);
+    number_at(out, 16, 8, grouped as u64);
+    put_numbers(&mut out[24..], 8, groups);
+    if w == 4 {
+        return put_numbers(&mut out[536..], 4, shares);
+    }
+    put_numbers(&mut out[536..], w, shares);
+}
+
+// The number that a site's bytes are.
+fn body_of(x: Site) -> u64
+    ensures { λ r. ⌜ ((w : ℕ) → le (2 + w) r ≡ placeBytes w x) ⌝ }
+{
+    (x.first as u64) + 256 * (x.second as u64) + 65536 * (x.litres as u64)
 }
 
 // A site goes to a place of a table's bytes.
-fn put_site(out: &mut [u8], at: usize, x: Site1)
-    requires { ⌜ at + 4 ≤ length (now out) ⌝ }
-    ensures { λ _. ⌜ now (out .exit) ≡ place at (placeBytes (widened x)) (now (out .entry)) ⌝ }
+pub fn put_site(out: &mut [u8], at: usize, w: usize, x: Site)
+    requires { ⌜ at + placeSize w ≤ length (now out) ⌝ }
+    ensures { λ _. ⌜ now (out .exit) ≡ place at (placeBytes w x) (now (out .entry)) ⌝ }
 {
-    number_at(out, at, 1, x.first as u64);
-    number_at(out, at + 1, 1, x.second as u64);
-    number_at(out, at + 2, 2, x.litres as u64);
+    number_at(out, at, 2 + w, body_of(x));
 }
 
-// Copy out: the first n sites go to the table's bytes. The others keep their content.
-pub fn put_sites(out: &mut [u8], sites: [Site1; 512], n: usize)
-    requires { ⌜ (n ≤ 512) × (4 * n ≤ length (now out)) ⌝ }
-    ensures { λ _. ⌜ PutSites n sites (now (out .entry)) (now (out .exit)) ⌝ }
+// The first n sites go to the first places.
+fn put_by(out: &mut [u8], w: usize, sites: [Site; 512], n: usize)
+    requires { ⌜ (n ≤ 512) × (placeSize w * n ≤ length (now out)) ⌝ }
+    ensures { λ _. ⌜ now (out .exit) ≡ tableOver w (take n sites) (now (out .entry)) ⌝ }
 {
     let mut i: usize = 0;
     let mut at: usize = 0;
     while i < n {
         let x = sites[i];
-        put_site(out, at, x);
-        at += 4;
+        let body = body_of(x);
+        number_at(out, at, 2 + w, body);
+        at += 2 + w;
         i += 1;
     }
+}
+
+// Copy out: the first n sites go to the table's bytes. The other places keep their content.
+pub fn put_sites(out: &mut [u8], w: usize, sites: [Site; 512], n: usize)
+    requires { ⌜ (n ≤ 512) × (placeSize w * n ≤ length (now out)) ⌝ }
+    ensures { λ _. ⌜ PutSites w n sites (now (out .entry)) (now (out .exit)) ⌝ }
+{
+    if w == 2 {
+        return put_by(out, 2, sites, n);
+    }
+    put_by(out, w, sites, n);
 }

@@ -1,2 +1,3 @@
-pub mod Contracts
 pub mod Served
+pub mod Loaded
+pub mod Contracts

@@ -1,145 +1,224 @@
--- A call on lent bytes, from what its parts say. Assumes nothing.
-use Prim.Native.Nat.{ℕ, _*_, _/_, _≤_}
-use mathlib.Core.Bool.{Bool, true, false, cond, true≢false}
-use mathlib.Core.List.{List, [], _∷_, map}
+-- A call on lent bytes, from what its parts say: what is read of them, what is kept, and what is done is written and reads back. Assumes nothing.
+use Prim.Native.Nat.{ℕ, zero, suc, _*_, _<_, _≤_, _^_}
+use mathlib.Core.Bool.{Bool, true, false, cond}
+use mathlib.Core.List.{List, map}
 use mathlib.Core.Option.{Option, none, some}
-use mathlib.Core.Path.{_≡_, refl, ap, ap₂, sym, _∙_}
+use mathlib.Core.Path.{_≡_, refl, ap, ap₂, subst, sym, _∙_}
+use native.Mathlib.Nat.{mul-comm, mul-le-mul-right, le-div-iff-mul-le}
 use native.Mathlib.Omega.{arith}
-use borrow.Author.Tests.{eq-eqb, ne-eqb}
-use lib.ListN.{length, take}
-use Rattle.records.specs.Bytes.{Bytes}
-use Rattle.table.specs.declared.Site1.{Site1}
-use Rattle.table.specs.Table.{overlay, heldOf}
-use Rattle.table.specs.Widths.{noSite1, widened}
-use Rattle.table.proofs.Overlay.{held-stands}
-use Rattle.edition1.specs.declared.Store1.{Store1}
+use borrow.Author.Tests.{eqb-true}
+use lib.Dec.{leb}
+use lib.ListN.{length, take, drop, getD, set}
+use lib.Seq.{getD-take}
+use Rattle.sets.specs.Sum.{any}
+use Rattle.sets.proofs.Sum.{any-cong}
+use Rattle.density.specs.declared.Site.{Site}
+use Rattle.density.specs.Network.{noSite, siteAt}
+use Rattle.records.specs.declared.Edition.{Edition}
+use Rattle.records.specs.declared.ListArray.{ListArray}
+use Rattle.records.specs.Bytes.{Bytes, field, value}
+use Rattle.records.specs.Record.{records}
+use Rattle.records.specs.Write.{place}
+use Rattle.records.proofs.Bytes.{bytes-take, bytes-drop, field-small}
+use Rattle.table.specs.Table.{overlay}
+use Rattle.table.proofs.Overlay.{overlay-at}
+use Rattle.held_state.specs.declared.Store.{Store}
+use Rattle.held_state.specs.declared.Summary.{Summary}
+use Rattle.held_state.specs.Held.{State, on, listOf, badSite}
+use Rattle.held_state.specs.Values.{BadKnown, Stands}
 use Rattle.store.specs.declared.Request.{Request}
 use Rattle.store.specs.declared.Request.the-variants.{Load, Change, Add, Propose, Share, Depot, Difference, Written}
-use Rattle.edition1.specs.declared.Request1.{Request1}
-use Rattle.edition1.specs.declared.Decision1.{Decision1}
-use Rattle.store.specs.Calls.{Call, Told, told, refused}
-use Rattle.held_state.specs.Held.{State}
-use Rattle.store.specs.State.{Done, effectOf, refusal, settle, step}
+use Rattle.store.specs.Calls.{Call, Reply, Told, same, done}
+use Rattle.store.specs.Model.{withLitres}
+use Rattle.store.specs.State.{Done, bare, next, stays, effectOf, refusal, settle, step}
 use Rattle.store.specs.Trace.{Question}
-use Rattle.edition1.specs.Edition1.{storeOf1, view1, callOf1, fresh1, turned1, Served1}
-use Rattle.layout.specs.Layout.{storeBytes, isSized, storeIn, sitesIn, tableOver, PutStore, PutSites}
-use Rattle.lent.specs.Lent.{stateIn, Lent, isKept, lent, laid, Called, Freshened}
-use Rattle.lent.specs.Lent as spec
-use Rattle.layout.proofs.RoundTrip.{length-sites, table-again}
+use Rattle.store.specs.Widths.{Named, Fits}
+use Rattle.store.proofs.Widths.{below, repeated-at, read-at, step-fits}
+use Rattle.store_calls.proofs.Steps.{held-site}
+use Rattle.layout.specs.declared.Header.{Header}
+use Rattle.layout.specs.Layout.{storeSize, placeSize, placesIn, storeBytes, storeAt, noStore, storeIn, placeBytes, placeIn, sitesIn, tableOver, StoreRead, PutStore, PutSites}
+use Rattle.layout.proofs.RoundTrip.{length-sites, table-again, site-here}
+use Rattle.layout.proofs.Places.{site-back, site-over, table-same}
+use Rattle.lent.specs.Lent.{stateIn, isOf, Lent, isKept, lent, laid, Called, Freshened}
 
-sized : (s : List ℕ) → length s ≡ 2584 → isSized s ≡ true
-sized s = eq-eqb (length s) 2584
+-- ---- lengths and places
 
-unlike : (s : List ℕ) → (length s ≡ 2584 → ⊥) → isSized s ≡ false
-unlike s = ne-eqb (length s) 2584
+pub sized-is : (e : Edition) (s : List ℕ) → isOf e s ≡ true → length s ≡ storeSize (e .share)
+sized-is e s = eqb-true (length s) (storeSize (e .share))
+
+pub places-fit : (w n : ℕ) (t : List ℕ) → n ≤ placesIn w t → placeSize w * n ≤ length t
+places-fit w n t h = rw mul-comm (le-div-iff-mul-le {k = placeSize w} {x = n} {y = length t} (omega arith) .0 h)
+
+-- a place of a held site is far below 2 ^ 64
+pub at-small : {w i : ℕ} → w ≤ 4 → i ≤ 512 → placeSize w * i < 2 ^ 64
+at-small {w} {i} h l = let m : placeSize w * i ≤ 6 * i = mul-le-mul-right i (omega arith) in omega arith
+
+-- ---- what bytes stand for has the widths of the edition
+
+-- numbers that are read have their width
+numbers-fit : (w n : ℕ) (s : List ℕ) → Bytes s → (i : ℕ) → getD (map value (records w n s)) i 0 < 256 ^ w
+unfolding records
+numbers-fit w zero s b i = below w
+numbers-fit w (suc n) s b zero = field-small s 0 w b
+numbers-fit w (suc n) s b (suc i) = numbers-fit w n (drop w s) (bytes-drop w s b) i
+
+module _ (e : Edition) where
+  shares-fit : (s : List ℕ) → Bytes s → (i : ℕ) → getD (storeIn (e .share) s .shares) i 0 < 256 ^ e .share
+  unfolding storeIn
+  shares-fit s b i = by (leb (field s 8 8) 1)
+    where
+      by : (z : Bool) → getD (cond z (storeAt (e .share) s) noStore .shares) i 0 < 256 ^ e .share
+      by true = numbers-fit (e .share) 512 (drop 536 s) (bytes-drop 536 s b) i
+      by false = repeated-at (λ (x : ℕ). x < 256 ^ e .share) 0 (below (e .share)) 512 i
+
+  litres-fit : (t : List ℕ) → Bytes t → (i : ℕ) → getD (sitesIn (e .litres) t) i noSite .litres < 256 ^ e .litres
+  unfolding sitesIn
+  litres-fit t b i =
+      read-at (λ (x : Site). x .litres < 256 ^ e .litres) noSite (placeIn (e .litres)) (λ r k. field-small r 2 (e .litres) k) (below (e .litres))
+      (placeSize (e .litres)) (placesIn (e .litres) t) t b i
+
+  state-fits : (m : ℕ) (s t : List ℕ) → Bytes s → Bytes t → Fits m (stateIn e s t)
+  state-fits m s t b k = record { litres = λ i l. litres-fit t k i; shares = shares-fit s b }
 
 -- ---- a fresh store
 
-pub fresh-not : (s : List ℕ) → (length s ≡ 2584 → ⊥) → Freshened s false s
-fresh-not s h = record { answer = sym (unlike s h); is = rw (unlike s h); reads = λ e. absurd (true≢false (sym e ∙ unlike s h)) }
+pub fresh-put : (e : Edition) {s' : List ℕ} → PutStore (e .share) (bare 0) s' → Freshened e s'
+fresh-put e p = record { is = p .bytes; reads = p .reads (repeated-at (λ (x : ℕ). x < 256 ^ e .share) 0 (below (e .share)) 512) }
 
-pub fresh-put : (s : List ℕ) {x : Store1} {s' : List ℕ} → length s ≡ 2584 → x ≡ fresh1 → PutStore x s' → Freshened s true s'
-fresh-put s h e p =
+-- ---- what is read
+
+-- the list that is read of a table's first places
+abbrev pub Listed : Edition → List ℕ → ℕ → ListArray → Type 0
+Listed e t n list =
+    (list .count ≡ n) × (n ≤ 512 → n ≤ placesIn (e .litres) t → take n (list .sites) ≡ take n (sitesIn (e .litres) t))
+
+take-any : (n : ℕ) (a b : List Site) → take n a ≡ take n b → any (λ i. badSite (getD a i noSite)) n ≡ any (λ i. badSite (getD b i noSite)) n
+take-any n a b h =
+    any-cong (λ i. badSite (getD a i noSite)) (λ i. badSite (getD b i noSite)) n
+    (λ i l. ap badSite (sym (getD-take n a i noSite l) ∙ ap (λ (x : List Site). getD x i noSite) h ∙ getD-take n b i noSite l))
+
+pub marks : (e : Edition) (t : List ℕ) {n : ℕ} (k : Summary) → k .places ≡ placesIn (e .litres) t
+    → (n ≤ 512 → n ≤ placesIn (e .litres) t → k .bad ≡ any (λ i. badSite (getD (sitesIn (e .litres) t) i noSite)) n)
+    → (list : ListArray) → list .count ≡ n → (n ≤ 512 → n ≤ placesIn (e .litres) t → take n (list .sites) ≡ take n (sitesIn (e .litres) t)) → BadKnown list k
+marks e t {n} k p bad list c l =
+    subst (λ (m : ℕ). m ≤ 512 → m ≤ k .places → k .bad ≡ any (λ i. badSite (getD (list .sites) i noSite)) m) (sym c)
+    (λ a b.
+    let room : n ≤ placesIn (e .litres) t = omega (arith, p) in
+    bad a room ∙ sym (take-any n (list .sites) (sitesIn (e .litres) t) (l a room)))
+
+-- the values that are read are those of the state
+pub stands : (e : Edition) (s t : List ℕ) {h : Header} {gs ss : List ℕ} {list : ListArray} {k : Summary} → StoreRead (e .share) s h gs ss → Listed e t (h .count) list
+    → k .places ≡ placesIn (e .litres) t → k .held ≡ h .held → k .grouped ≡ h .grouped → Stands (stateIn e s t) list k gs ss
+stands e s t {h} {gs} {ss} {list} {k} r l p d g =
     record {
-      answer = sym (sized s h);
-      is = rw (sized s h) (p .bytes ∙ ap (λ (x : Store1). storeBytes (storeOf1 x)) e);
-      reads = λ k. p .reads ∙ e;
+      count = l .0 ∙ r .count;
+      places = p ∙ sym (length-sites (e .litres) t);
+      held = d ∙ r .held;
+      grouped = g ∙ r .grouped;
+      sites = subst (λ (n : ℕ). n ≤ 512 → n ≤ k .places → take n (list .sites) ≡ take n (sitesIn (e .litres) t)) (sym (l .0)) (λ a b. l .1 a (omega (arith, p)));
+      groups = subst (λ (n : ℕ). n ≤ 64 → take n gs ≡ take n (storeIn (e .share) s .groups)) (sym g) (r .groups);
+      shares = subst (λ (n : ℕ). n ≤ 512 → take n ss ≡ take n (storeIn (e .share) s .shares)) (sym (l .0)) (r .shares);
     }
 
--- ---- a refused step and a question leave the state
+-- ---- a question leaves the state
 
 module _ (s : State) (c : Call) where
-  stays-by : (o : Option ℕ) (q : Request) → isKept (settle o s c (effectOf s c q) .reply .answer) ≡ true → settle o s c (effectOf s c q) .after ≡ s
-  stays-by (some n) q e = refl
-  stays-by none Load e = absurd (true≢false (sym e))
-  stays-by none (Change i w) e = absurd (true≢false (sym e))
-  stays-by none (Add f d w) e = absurd (true≢false (sym e))
-  stays-by none Propose e = absurd (true≢false (sym e))
-  stays-by none (Share i) e = refl
-  stays-by none (Depot d) e = refl
-  stays-by none (Difference a d) e = refl
-  stays-by none Written e = refl
-
-  kept-stays : isKept (step s c .reply .answer) ≡ true → step s c .after ≡ s
-  kept-stays = stays-by (refusal s c) (c .request)
-
-  asks-by : (o : Option ℕ) (q : Request) → Question q → isKept (settle o s c (effectOf s c q) .reply .answer) ≡ true
-  asks-by (some n) q h = refl
+  asks-by : (o : Option ℕ) (q : Request) → Question q
+      → (settle o s c (effectOf s c q) .after ≡ s) × (isKept (settle o s c (effectOf s c q) .reply .answer) ≡ true)
+  asks-by (some n) q h = (refl, refl)
   asks-by none Load h = absurd h
   asks-by none (Change i w) h = absurd h
   asks-by none (Add f d w) h = absurd h
   asks-by none Propose h = absurd h
-  asks-by none (Share i) h = refl
-  asks-by none (Depot d) h = refl
-  asks-by none (Difference a d) h = refl
-  asks-by none Written h = refl
-
-  asks-kept : Question (c .request) → isKept (step s c .reply .answer) ≡ true
-  asks-kept = asks-by (refusal s c) (c .request)
+  asks-by none (Share i) h = (refl, refl)
+  asks-by none (Depot d) h = (refl, refl)
+  asks-by none (Difference a d) h = (refl, refl)
+  asks-by none Written h = (refl, refl)
 
 -- ---- a call
 
-module _ (s t : List ℕ) (request : Request1) (input buffer : List ℕ) where
-  abbrev asked : Call
-  asked = callOf1 request input buffer
+module _ (e : Edition) (s t : List ℕ) (c : Call) (bytes : Bytes (c .input)) where
+  abbrev state : State
+  state = stateIn e s t
 
-  pub unsized : (length s ≡ 2584 → ⊥) → Bytes input → Called s t asked (refused 0) s t buffer
-  unsized h bytes = record { is = rw (unlike s h); long = refl; reads = λ e. absurd (true≢false (sym e ∙ unlike s h)); bytes = bytes }
+  abbrev laidBy : Bool → Done → Lent
+  laidBy b d = cond b (lent s t (d .reply)) (lent (storeBytes (e .share) (d .after .store)) (tableOver (e .litres) (d .after .table) t) (d .reply))
 
-  module _ {before : Store1} {sites : List Site1} {d : Decision1} {last : List ℕ} (long : length s ≡ 2584) (e : before ≡ storeIn s)
-      (f : sites ≡ heldOf noSite1 (sitesIn t)) (v : Bytes input × Served1 before sites (length t / 4) request input buffer d last) where
-    abbrev after : Done
-    after = turned1 (record { answer = d .answer; store = d .store }) (overlay (d .n) (d .sites) (sitesIn t)) last
+  -- Where the call is refused or a question, nothing is written.
+  pub keeps : {a : Told} {last : List ℕ} → isKept a ≡ true → step state c ≡ stays state (record { answer = a; buffer = last }) → Called e s t c a s t last
+  keeps {a} {last} k h =
+      record {
+        is = ap (λ (b : Bool). laidBy b (stays state (record { answer = a; buffer = last }))) (sym k) ∙ ap (laid e s t) (sym h);
+        long = refl;
+        reads = ap (λ (d : Done). d .after) (sym h);
+        bytes = bytes;
+      }
 
-    steps : after ≡ step (stateIn s t) asked
-    steps =
-        let n = length-sites t in
-        let stands = ap₂ (λ (k : ℕ) (l : List Site1). take k l) (sym n) f ∙ held-stands noSite1 (sitesIn t) in
-        v .1 .steps (sitesIn t) (sym n) stands ∙ ap (λ (x : Store1). step (view1 x (sitesIn t)) asked) e
+  pub asks : {a : Told} {last : List ℕ} → Question (c .request) → record { answer = a; buffer = last } ≡ step state c .reply → Called e s t c a s t last
+  asks q h =
+      let k = asks-by state c (refusal state c) (c .request) q in
+      keeps (ap (λ (r : Reply). isKept (r .answer)) h ∙ k .1) (ap₂ (λ (x : State) (r : Reply). record { after = x; reply = r }) (k .0) (sym h))
 
-    -- what is laid, by whether the call leaves the desk as it was
-    abbrev laidBy : Bool → Lent
-    laidBy b = cond b (lent s t (after .reply)) (lent (storeBytes (after .after .store)) (tableOver (after .after .table) t) (after .reply))
+  -- Where it is done, what is done is written, and reads back.
+  module _ (bs : Bytes s) (bt : Bytes t) (named : Named (256 ^ e .litres) (c .request)) where
+    abbrev Steps : Store → List Site → Type 0
+    Steps store table = step state c ≡ next state store table (same c done)
 
-    is-laid : laid s t after ≡ spec.call s t asked
-    is-laid = rw (sized s long) (ap (laid s t) steps)
+    after-fits : {store : Store} {table : List Site} → Steps store table → (m : ℕ) → Fits m (on e store table)
+    after-fits h m = subst (λ (d : Done). Fits m (d .after)) h (step-fits m state (state-fits e m s t bs bt) c bytes named)
 
-    pub keeps : isKept (told (d .answer)) ≡ true → Called s t asked (told (d .answer)) s t last
-    keeps r =
+    pub puts : {store : Store} {table : List Site} {s' t' : List ℕ} → Steps store table → PutStore (e .share) store s' → length s' ≡ length s
+        → t' ≡ tableOver (e .litres) table t → (((i : ℕ) → getD table i noSite .litres < 256 ^ e .litres) → sitesIn (e .litres) t' ≡ table)
+        → Called e s t c done s' t' (c .buffer)
+    puts {store} {table} h p long over back =
         record {
-          is = ap (λ (b : Bool). laidBy b) (sym r) ∙ is-laid;
-          long = refl;
-          reads = λ k. sym (kept-stays (stateIn s t) asked (ap (λ (x : Done). isKept (x .reply .answer)) (sym steps) ∙ r));
-          bytes = v .0;
+          is = ap₂ (λ (x y : List ℕ). lent x y (same c done)) (p .bytes) over ∙ ap (laid e s t) (sym h);
+          long = long;
+          reads =
+              ap₂ (λ (x : Store) (y : List Site). on e x y) (p .reads (after-fits h 0 .shares)) (back (λ i. after-fits h (suc i) .litres i (omega arith)))
+              ∙ ap (λ (d : Done). d .after) (sym h);
+          bytes = bytes;
         }
 
-    pub puts : isKept (told (d .answer)) ≡ false → Bytes t → {s' t' : List ℕ} → PutSites (d .n) (d .sites) t t' → PutStore (d .store) s' → length s' ≡ length s
-        → Called s t asked (told (d .answer)) s' t' last
-    puts r bytes {s'} {t'} p q kept =
-        let room : 4 * d .n ≤ length t = omega (arith, v .1 .room) in
-        let table : t' ≡ tableOver (map widened (overlay (d .n) (d .sites) (sitesIn t))) t =
-        p .bytes ∙ sym (table-again (d .n) (d .sites) t (omega (arith, v .1 .few, p .many)) room bytes) in
-        record {
-          is = ap₂ (λ (x y : List ℕ). lent x y (after .reply)) (q .bytes) table ∙ ap (λ (b : Bool). laidBy b) (sym r) ∙ is-laid;
-          long = kept;
-          reads = λ k. ap₂ (λ (x : Store1) (y : List Site1). view1 x y) (q .reads) (p .reads) ∙ ap (λ (x : Done). x .after) steps;
-          bytes = v .0;
-        }
+    -- the first n sites are written
+    pub puts-sites : {n : ℕ} {sites : List Site} {s' t' : List ℕ} → n ≤ 512 → n ≤ placesIn (e .litres) t → Steps (bare n) (overlay n sites (sitesIn (e .litres) t))
+        → PutStore (e .share) (bare n) s' → length s' ≡ length s → PutSites (e .litres) n sites t t' → Called e s t c done s' t' (c .buffer)
+    puts-sites {n} {sites} few room h p long q =
+        let many : n ≤ length sites = omega (arith, q .many) in
+        puts h p long (q .bytes ∙ sym (table-again (e .litres) n sites t many (places-fit (e .litres) n t room) bt))
+        (λ f.
+        q .reads
+        (λ i l. subst (λ (x : Site). x .litres < 256 ^ e .litres) (overlay-at n sites (sitesIn (e .litres) t) i noSite l many) (f i)))
 
--- a buffer without bytes stays so
-pub called-empty : {s t s' t' b : List ℕ} {c : Call} {a : Told} → Called s t c a s' t' b → length b ≡ 0 → Called s t c a s' t' []
-called-empty {b = []} x h = x
-called-empty {b = y ∷ b} x h = absurd (omega arith)
+    -- one site is written
+    pub puts-site : {i n : ℕ} {x : Site} {s' t' : List ℕ} → i < placesIn (e .litres) t → x .first < 256 → x .second < 256 → x .litres < 256 ^ e .litres
+        → Steps (bare n) (set (sitesIn (e .litres) t) i x) → PutStore (e .share) (bare n) s' → length s' ≡ length s
+        → t' ≡ place (placeSize (e .litres) * i) (placeBytes (e .litres) x) t → Called e s t c done s' t' (c .buffer)
+    puts-site {i} {n} {x} l a b w h p long q =
+        puts h p long (q ∙ site-over (e .litres) t i x bt l) (λ f. ap (sitesIn (e .litres)) q ∙ site-back (e .litres) t i x l a b w)
 
--- ---- a question changes no byte
+    -- a plan is written
+    pub puts-plan : {store : Store} {s' : List ℕ} → Steps store (sitesIn (e .litres) t) → PutStore (e .share) store s' → length s' ≡ length s
+        → Called e s t c done s' t (c .buffer)
+    puts-plan h p long = puts h p long (sym (table-same (e .litres) t bt)) (λ f. refl)
 
-module _ {s t s' t' buffer : List ℕ} {c : Call} {a : Told} (x : Called s t c a s' t' buffer) (q : Question (c .request)) where
-  laid-kept : (laid s t (step (stateIn s t) c) .store ≡ s) × (laid s t (step (stateIn s t) c) .table ≡ t)
-  laid-kept = rw (asks-kept (stateIn s t) c q) (refl, refl)
+-- ---- a site that is changed
 
-  sized-by : (z : Bool) → isSized s ≡ z → (s' ≡ s) × (t' ≡ t)
-  sized-by true e = let i = rw e at (x .is) in (ap (λ (l : Lent). l .store) i ∙ laid-kept .0, ap (λ (l : Lent). l .table) i ∙ laid-kept .1)
-  sized-by false e = let i = rw e at (x .is) in (ap (λ (l : Lent). l .store) i, ap (λ (l : Lent). l .table) i)
+module _ (e : Edition) (s t : List ℕ) {i : ℕ} (l : i < stateIn e s t .store .count) (room : i < placesIn (e .litres) t) where
+  abbrev part : List ℕ
+  part = take (placeSize (e .litres)) (drop (placeSize (e .litres) * i) t)
 
-  pub question-keeps : (s' ≡ s) × (t' ≡ t)
-  question-keeps = sized-by (isSized s) refl
+  pub changed-is : (w : ℕ) → withLitres (siteAt (listOf (stateIn e s t)) i) w ≡ withLitres (placeIn (e .litres) part) w
+  changed-is w = ap (λ (x : Site). withLitres x w) (held-site (stateIn e s t) i l ∙ site-here (e .litres) t i room)
+
+  pub changed-small : Bytes t → (placeIn (e .litres) part .first < 256) × (placeIn (e .litres) part .second < 256)
+  changed-small b =
+      let k = bytes-take (placeSize (e .litres)) (drop (placeSize (e .litres) * i) t) (bytes-drop (placeSize (e .litres) * i) t b) in
+      (field-small part 0 1 k, field-small part 1 1 k)
+
+-- ---- a call by the case of its request
+
+pub called-as : {e : Edition} {s t s' t' input buffer last : List ℕ} {a : Told} {q r : Request} → q ≡ r
+    → Called e s t (record { request = r; input = input; buffer = buffer }) a s' t' last → Called e s t (record { request = q; input = input; buffer = buffer }) a s' t' last
+called-as {e} {s} {t} {s'} {t'} {input} {buffer} {last} {a} k x =
+    subst (λ (q : Request). Called e s t (record { request = q; input = input; buffer = buffer }) a s' t' last) (sym k) x

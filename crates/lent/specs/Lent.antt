@@ -1,19 +1,23 @@
--- What a desk call does to lent bytes.
+-- What a call of the store does to lent bytes, over the edition of the store.
 use mathlib.Core.Path.{_≡_}
 use mathlib.Core.Bool.{Bool, true, false, cond}
 use mathlib.Core.List.{List}
 use Prim.Native.Nat.{ℕ}
 use lib.ListN.{length}
 use Rattle.records.specs.Bytes.{Bytes}
-use Rattle.store.specs.Calls.{Call, Reply, Told, refused, done, shared, loaded, differ, wrote, same}
-use Rattle.held_state.specs.Held.{State}
+use Rattle.records.specs.declared.Edition.{Edition}
+use Rattle.store.specs.Calls.{Call, Reply, Told, refused, done, shared, loaded, differ, wrote}
+use Rattle.held_state.specs.Held.{State, on}
 use Rattle.store.specs.State.{Done, bare, step}
-use Rattle.edition1.specs.Edition1.{view1, fresh1}
 use Rattle.layout.specs.Layout.{storeBytes, isSized, storeIn, sitesIn, tableOver}
 
 -- the state that the bytes of a store and of a table stand for
-abbrev pub stateIn : List ℕ → List ℕ → State
-stateIn s t = view1 (storeIn s) (sitesIn t)
+abbrev pub stateIn : Edition → List ℕ → List ℕ → State
+stateIn e s t = on e (storeIn (e .share) s) (sitesIn (e .litres) t)
+
+-- the bytes have the length of a store of the edition
+abbrev pub isOf : Edition → List ℕ → Bool
+isOf e s = isSized (e .share) s
 
 -- What a call leaves: the bytes of the store and of the table, and its reply.
 pub record Lent : Type 0 where
@@ -21,7 +25,7 @@ pub record Lent : Type 0 where
   pub table : List ℕ
   pub reply : Reply
 
--- Does a call that is so answered leave the desk as it was? A refused call and a question do.
+-- Does a call that is so answered leave the store as it was? A refused call and a question do.
 abbrev pub isKept : Told → Bool
 isKept (refused n) = true
 isKept done = false
@@ -34,23 +38,24 @@ abbrev pub lent : List ℕ → List ℕ → Reply → Lent
 lent s t r = record { store = s; table = t; reply = r }
 
 -- the bytes of the state after a step; a refused call and a question leave all as it was
-abbrev pub laid : List ℕ → List ℕ → Done → Lent
-laid s t d =
-    cond (isKept (d .reply .answer)) (lent s t (d .reply)) (lent (storeBytes (d .after .store)) (tableOver (d .after .table) t) (d .reply))
+abbrev pub laid : Edition → List ℕ → List ℕ → Done → Lent
+laid e s t d =
+    cond (isKept (d .reply .answer)) (lent s t (d .reply))
+    (lent (storeBytes (e .share) (d .after .store)) (tableOver (e .litres) (d .after .table) t) (d .reply))
 
--- Bytes that are not 2,584 cannot be written as a store: every call, a load too, is refused by row 0.
-abbrev pub call : List ℕ → List ℕ → Call → Lent
-call s t c = cond (isSized s) (laid s t (step (stateIn s t) c)) (lent s t (same c (refused 0)))
+-- a call, at bytes that have the length of a store of the edition
+abbrev pub call : Edition → List ℕ → List ℕ → Call → Lent
+call e s t c = laid e s t (step (stateIn e s t) c)
 
--- What `call` promises: the bytes and the reply are those, the store keeps its length, the bytes stand for the state after the step, and the input is bytes.
-pub record Called (s t : List ℕ) (c : Call) (answer : Told) (s' t' buffer : List ℕ) : Type 0 where
-  pub is : lent s' t' (record { answer = answer; buffer = buffer }) ≡ call s t c
+-- What a call promises: the bytes and the reply are those, the store keeps its length, the bytes stand for the state after the step, and the input is
+-- bytes.
+pub record Called (e : Edition) (s t : List ℕ) (c : Call) (answer : Told) (s' t' buffer : List ℕ) : Type 0 where
+  pub is : lent s' t' (record { answer = answer; buffer = buffer }) ≡ call e s t c
   pub long : length s' ≡ length s
-  pub reads : isSized s ≡ true → stateIn s' t' ≡ step (stateIn s t) c .after
+  pub reads : stateIn e s' t' ≡ step (stateIn e s t) c .after
   pub bytes : Bytes (c .input)
 
 -- "A fresh desk has no sites, no plan, and 512 places for shares, all zero. Its 64 places for groups are zero too."
-pub record Freshened (s : List ℕ) (r : Bool) (s' : List ℕ) : Type 0 where
-  pub answer : r ≡ isSized s
-  pub is : s' ≡ cond (isSized s) (storeBytes (bare 0)) s
-  pub reads : isSized s ≡ true → storeIn s' ≡ fresh1
+pub record Freshened (e : Edition) (s' : List ℕ) : Type 0 where
+  pub is : s' ≡ storeBytes (e .share) (bare 0)
+  pub reads : storeIn (e .share) s' ≡ bare 0

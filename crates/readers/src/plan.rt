@@ -13,7 +13,7 @@ ghost use Rattle.records.specs.Format.{readPlan};
 ghost use Rattle.readers.specs.Head.{planHead};
 
 // A plan that row `n` refuses.
-fn no_plan(n: u8) -> PlanRead
+pub fn no_plan(n: u8) -> PlanRead
     ensures { λ r. ⌜ r ≡ planRead (refused n) ⌝ }
 {
     let plan = PlanArray {

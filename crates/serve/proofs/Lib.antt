@@ -1,4 +1,2 @@
 pub mod FirstPlaces
 pub mod ServeRules
-pub mod ServeCalls
-pub mod ServeQuestions

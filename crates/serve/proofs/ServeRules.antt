@@ -1,142 +1,280 @@
--- From the values that stand for the table to the step: row 0, one law for a refusal and one for what is granted. Assumes nothing.
-use mathlib.Core.Path.{_≡_, sym, ap₂, _∙_, subst}
-use mathlib.Core.Logic.{⊎-elim}
-use mathlib.Core.Bool.{Bool, true, false, cond, _&&_, _||_, and-false}
-use mathlib.Core.List.{List}
-use mathlib.Core.Option.{none, some}
-use Prim.Native.Nat.{ℕ, _≤_, zero-le}
+-- From the values that stand for a table to the step at it: each case of the code is a case of the step. Assumes nothing.
+use mathlib.Core.Path.{_≡_, refl, sym, ap, _∙_, subst}
+use mathlib.Core.Bool.{Bool, true, false}
+use mathlib.Core.List.{List, []}
+use mathlib.Core.Option.{Option, none, some}
+use Prim.Native.Nat.{ℕ, _+_, _≤_, _<_}
 use native.Mathlib.Omega.{arith}
-use lib.Dec.{T, ltb, ltb→lt, nltb→le, not-T}
-use lib.ListN.{length, take}
-use Rattle.sets.proofs.Test.{or-l, or-r, or-cases, and-l, and-r, T?, T-ext, is-true, is-false, passes, fails}
+use lib.Dec.{T}
+use lib.ListN.{length, getD, set, take}
+use lib.Seq.{getD-take, take-append-seam}
 use Rattle.density.specs.declared.Site.{Site}
+use Rattle.density.specs.Network.{Listing, noSite, siteAt, depotsInRange}
+use Rattle.density.specs.Rows.{firstRow}
 use Rattle.records.specs.declared.Edition.{Edition}
-use Rattle.records.proofs.Outcomes.{or-false}
-use Rattle.table.proofs.Overlay.{overlay-none}
+use Rattle.records.specs.declared.ListArray.{ListArray}
+use Rattle.records.specs.Values.{Plan, listing}
+use Rattle.records.specs.Format.{edition1, readList}
+use Rattle.records.specs.Outcome.{refused, passed}
+use Rattle.records.specs.Answer.{filled, planArray}
+use Rattle.records.proofs.RoundTrip.{list-read}
+use Rattle.tables.specs.declared.Verdict.{Verdict}
+use Rattle.tables.specs.declared.Verdict.the-variants as verdict
+use Rattle.tables.specs.Verdict.{verdict}
+use Rattle.judge.specs.Check.{judgedFor}
+use Rattle.table.specs.Table.{overlay}
+use Rattle.table.proofs.Overlay.{overlay-none, overlay-set}
 use Rattle.held_state.specs.declared.Store.{Store}
+use Rattle.held_state.specs.declared.Summary.{Summary}
+use Rattle.held_state.specs.Held.{State, listOf, corrupt, on}
+use Rattle.held_state.specs.Values.{Stands}
+use Rattle.held_state.proofs.Intact.{intact→, good-range}
 use Rattle.store.specs.declared.Request.{Request}
+use Rattle.store.specs.declared.Request.the-variants.{Load, Change, Add, Propose, Share, Depot, Difference, Written}
 use Rattle.store.specs.declared.Decision.{Decision}
+use Rattle.store.specs.declared.Answer.{Answer}
 use Rattle.store.specs.declared.Answer.the-variants as of
-use Rattle.store.specs.Calls.{Call}
-use Rattle.store.specs.Model.{Model}
-use Rattle.held_state.specs.Held.{State, listOf, planHeld, badPlan, corrupt, on}
-use Rattle.store.specs.State.{modelOf, triesZero, rowFor, refusal, effectOf}
+use Rattle.store.specs.Calls.{Call, Reply, same, told, refused as row, done}
+use Rattle.store.specs.Model.{Model, rowsOf, withLitres}
+use Rattle.store.specs.State.{Done, modelOf, triesZero, bare, next, stays, effectOf, settle, refusal, step}
+use Rattle.store.specs.Decide.{takes}
+use Rattle.store.specs.Trace.{Question}
+use Rattle.store_calls.proofs.Steps as steps
 use Rattle.serve.specs.Serve.{decided, Served}
-use Rattle.held_state.proofs.Intact.{Good, listing, Intact, intact→, →intact, sized}
-use Rattle.serve.proofs.FirstPlaces.{same-front, front-there}
+use Rattle.serve.proofs.FirstPlaces.{same-front, a-table}
 
-module _ (e : Edition) (store : Store) (sites : List Site) (places : ℕ) where
-  -- the state with the values in place of the table, and its model with the table's places
-  abbrev pub values : State
-  values = on e store sites
+-- a question leaves the state
+question-leaves : (o : Option ℕ) (s : State) (c : Call) (q : Request) → Question q → settle o s c (effectOf s c q) .after ≡ s
+question-leaves (some n) s c q h = refl
+question-leaves none s c Load h = absurd h
+question-leaves none s c (Change i w) h = absurd h
+question-leaves none s c (Add f x w) h = absurd h
+question-leaves none s c Propose h = absurd h
+question-leaves none s c (Share i) h = refl
+question-leaves none s c (Depot d) h = refl
+question-leaves none s c (Difference a d) h = refl
+question-leaves none s c Written h = refl
 
-  abbrev pub model : Model
-  model = record { edition = e; places = places; list = listOf values; plan = cond (store .held) (some (planHeld values)) none }
+module _ (store : Store) (sites : List Site) (places : ℕ) where
+  abbrev pub list : ListArray
+  list = record { count = store .count; sites = sites }
 
-  -- what a call that tries row 0 goes by: the values are not corrupt, and the table has the sites' places
-  abbrev pub Sound : Type 0
-  Sound = (store .count ≤ places) × (corrupt values ≡ false)
+  -- of every table that the values stand for
+  abbrev pub AtTable : Edition → (State → Type 0) → Type 0
+  AtTable e P = (table : List Site) → places ≡ length table → take places sites ≡ take 512 table → P (on e store table)
 
-  module _ (table : List Site) (k : places ≡ length table) (h : take places sites ≡ take 512 table) where
-    abbrev state : State
-    state = on e store table
+  -- the values are those of a state with such a table
+  pub stands : (known : Summary) → known .places ≡ places → known .held ≡ store .held → known .grouped ≡ store .grouped
+      → (e : Edition) → AtTable e (λ s. Stands s list known (store .groups) (store .shares))
+  stands known p h g e table k y =
+      record {
+        count = refl;
+        places = p ∙ k;
+        held = h;
+        grouped = g;
+        sites = λ a b. same-front sites table places y (store .count) a (omega (arith, b, p));
+        groups = λ a. refl;
+        shares = λ a. refl;
+      }
 
-    pub front : (n : ℕ) → n ≤ 512 → n ≤ places → take n sites ≡ take n table
-    front = same-front sites table places h
+  -- what row 0 finds
+  abbrev pub Zero : Bool → Type 0
+  Zero b = (e : Edition) → AtTable e (λ s. b ≡ corrupt s)
 
-    to-table : store .count ≤ places → Intact values → Intact state
-    to-table room i =
-        let l = front (store .count) (i .few) room in
-        record {
-          few = i .few;
-          room = subst (λ (m : ℕ). store .count ≤ m) k room;
-          good = subst (λ (xs : List Site). Good (listing xs)) l (i .good);
-          groups = i .groups;
-          plan = λ t. subst (λ (xs : List Site). T (badPlan (listing xs) (planHeld values)) → ⊥) l (i .plan t);
-        }
+  -- what the rows of a change and of another site find
+  abbrev pub ChangeRow : ℕ → ℕ → Verdict → Type 0
+  ChangeRow i w v = (b : Model) (c : Call) → length (b .list .sites) ≡ store .count → v ≡ verdict (firstRow (rowsOf b c (Change i w)))
 
-    of-table : Intact state → (store .count ≤ places) × Intact values
-    of-table i =
-        let room = subst (λ (m : ℕ). store .count ≤ m) (sym k) (i .room) in
-        let l = sym (front (store .count) (i .few) room) in (
-          room,
-          record {
-            few = i .few;
-            room = front-there sites table places h (store .count) k (i .few) room;
-            good = subst (λ (xs : List Site). Good (listing xs)) l (i .good);
-            groups = i .groups;
-            plan = λ t. subst (λ (xs : List Site). T (badPlan (listing xs) (planHeld values)) → ⊥) l (i .plan t);
-          },
-        )
+  abbrev another : Site → Request
+  another x = Add (x .first) (x .second) (x .litres)
 
-    -- row 0 by the values
-    pub zero-is : (ltb places (store .count) || corrupt values) ≡ corrupt state
-    zero-is =
-        T-ext (ltb places (store .count) || corrupt values) (corrupt state)
-        (λ t. ⊎-elim (λ u. u)
-        (λ n.
-        let o = of-table (intact→ state (is-false (corrupt state) n)) in
-        ⊎-elim (λ u. absurd (let l = ltb→lt places (store .count) u in omega (arith, o .0)))
-        (λ u. absurd (fails (corrupt values) (→intact values (o .1)) u))
-        (or-cases (ltb places (store .count)) (corrupt values) t))
-        (T? (corrupt state)))
-        (λ t.
-        ⊎-elim (λ u. u)
-        (λ n.
-        let room = nltb→le places (store .count) (not-T (ltb places (store .count)) (λ u. n (or-l (ltb places (store .count)) (corrupt values) u))) in
-        let i = intact→ values (is-false (corrupt values) (λ u. n (or-r (ltb places (store .count)) (corrupt values) u))) in
-        absurd (fails (corrupt state) (→intact state (to-table room i)) t))
-        (T? (ltb places (store .count) || corrupt values)))
+  abbrev pub AddRow : Site → Verdict → Type 0
+  AddRow x v = (b : Model) (c : Call) → length (b .list .sites) ≡ store .count → b .places ≡ places → v ≡ verdict (firstRow (rowsOf b c (another x)))
 
-    module _ (s : Sound) where
-      pub not-zero : corrupt state ≡ false
-      not-zero = →intact state (to-table (s .0) (intact→ values (s .1)))
+  -- where row 0 finds nothing: the sites held are among the values, and their depots are in range
+  module _ (wide : length sites ≡ 512) (zero : Zero false) where
+    pub few : store .count ≤ 512
+    few = let (table, k, h) = a-table sites places wide in intact→ (on edition1 store table) (sym (zero edition1 table k h)) .few
 
-      pub same-model : modelOf state ≡ model
-      same-model =
-          ap₂ (λ (xs : List Site) (n : ℕ). record { edition = e; places = n; list = listing xs; plan = cond (store .held) (some (planHeld values)) none })
-          (sym (front (store .count) (intact→ values (s .1) .few) (s .0))) (sym k)
+    pub room : store .count ≤ places
+    room =
+        let (table, k, h) = a-table sites places wide in
+        omega (arith, k, intact→ (on edition1 store table) (sym (zero edition1 table k h)) .room)
 
-  -- row 0 does not apply
-  pub sound-of : (t : Bool) → t ≡ true → (t && (ltb places (store .count) || corrupt values)) ≡ false → Sound
-  sound-of t p h =
-      let k = or-false (ltb places (store .count)) (corrupt values) (rw p at h) in
-      (nltb→le places (store .count) (not-T (ltb places (store .count)) (fails (ltb places (store .count)) (k .0))), k .1)
+    same-list : (e : Edition) → AtTable e (λ s. listing list ≡ listOf s)
+    same-list e table k h = ap (λ (xs : List Site). record { sites = xs }) (same-front sites table places h (store .count) few room)
 
-  -- the number of sites held
-  pub held-count : Sound → length (listOf values .sites) ≡ store .count
-  held-count s = sized values (intact→ values (s .1) .room)
+    pub in-range : T (depotsInRange (listing list))
+    in-range =
+        let (table, k, h) = a-table sites places wide in
+        let s = on edition1 store table in
+        subst (λ (l : Listing). T (depotsInRange l)) (sym (same-list edition1 table k h))
+        (good-range (listOf s) (intact→ s (sym (zero edition1 table k h)) .good))
 
-  module _ (request : Request) (input buffer : List ℕ) where
-    abbrev pub call : Call
-    call = record { request = request; input = input; buffer = buffer }
+    -- what is granted: a change of a site that is held, another site where there is a place for it
+    module _ (i w : ℕ) (v : ChangeRow i w verdict.Passes) where
+      change-step : (c : Call) → c .request ≡ Change i w → (e : Edition)
+          → AtTable e (λ s. (step s c ≡ next s (bare (store .count)) (set (s .table) i (withLitres (siteAt (listOf s) i) w)) (same c done)) × (i < store .count))
+      change-step c q e table k h =
+          let s = on e store table in
+          let z = sym (zero e table k h) in
+          steps.change-passed s c z i w q (sym (v (modelOf s) c (steps.held-count s z .2)))
 
-    abbrev pub AtTable : (State → Type 0) → Type 0
-    AtTable P = (table : List Site) → places ≡ length table → take places sites ≡ take 512 table → P (on e store table)
+      pub change-held : (i < store .count) × (i < 512)
+      change-held =
+          let (table, k, h) = a-table sites places wide in
+          let l = change-step (record { request = Change i w; input = []; buffer = [] }) refl edition1 table k h .1 in
+          (l, omega (arith, l, few))
+
+    module _ (x : Site) (v : AddRow x verdict.Passes) where
+      add-step : (c : Call) → c .request ≡ another x → (e : Edition)
+          → AtTable e (λ s. (step s c ≡ next s (bare (store .count + 1)) (set (s .table) (store .count) x) (same c done)) × (store .count < 512) × (store .count < length (s .table)))
+      add-step c q e table k h =
+          let s = on e store table in
+          let z = sym (zero e table k h) in
+          steps.add-passed s c z (x .first) (x .second) (x .litres) q (sym (v (modelOf s) c (steps.held-count s z .2) (sym k)))
+
+      pub add-room : (store .count < 512) × (store .count < places)
+      add-room =
+          let (table, k, h) = a-table sites places wide in
+          let l = add-step (record { request = another x; input = []; buffer = [] }) refl edition1 table k h in
+          (l .1, omega (arith, l .2, k))
+
+  module _ (e : Edition) (input buffer : List ℕ) (r : Decision) where
+    abbrev call : Request → Call
+    call request = record { request = request; input = input; buffer = buffer }
+
+    abbrev Goes : Request → List ℕ → Type 0
+    Goes request last = Served e store sites places request input buffer r last
+
+    abbrev Answered : Answer → Type 0
+    Answered a = r ≡ record { answer = a; store = store; sites = sites; n = 0 }
+
+    -- the table stays where no site goes to it
+    kept : (a : Answer) → Answered a → (last : List ℕ) → AtTable e (λ s. decided s r last ≡ stays s (record { answer = told a; buffer = last }))
+    kept a q last table k h = rw (q, overlay-none sites table)
+
+    none-go : (a : Answer) → Answered a → (m : ℕ) → r .n ≤ m
+    none-go a q m = let z : r .n ≡ 0 = ap (λ (x : Decision). x .n) q in omega arith
 
     -- a refusal leaves the store, the table and the buffer
-    pub refuses : (n : ℕ) → AtTable (λ s. refusal s call ≡ some n) → (r : Decision)
-        → r ≡ record { answer = of.Refused n; store = store; sites = sites; n = 0 } → Served e store sites places request input buffer r buffer
-    refuses n f r q =
-        subst (λ (r : Decision). Served e store sites places request input buffer r buffer) (sym q)
-        (record { steps = λ table k h. rw (f table k h, overlay-none sites table); few = zero-le; room = zero-le })
+    refuses : (request : Request) (n : ℕ) → AtTable e (λ s. step s (call request) ≡ stays s (same (call request) (row n))) → Answered (of.Refused n) → Goes request buffer
+    refuses request n f q =
+        record {
+          steps = λ table k h. kept (of.Refused n) q buffer table k h ∙ sym (f table k h);
+          few = none-go (of.Refused n) q 512;
+          room = none-go (of.Refused n) q places;
+        }
 
-    -- what no row refuses
-    pub grants : (r : Decision) (last : List ℕ) → r .n ≤ 512 → r .n ≤ places → AtTable (λ s. refusal s call ≡ none)
-        → AtTable (λ s. decided s r last ≡ effectOf s call request) → Served e store sites places request input buffer r last
-    grants r last few room f g = record { steps = λ table k h. g table k h ∙ rw (f table k h); few = few; room = room }
+    pub zero-served : (request : Request) → triesZero request ≡ true → Zero true → Answered (of.Refused 0) → Goes request buffer
+    zero-served request t z = refuses request 0 (λ table k h. steps.zero-step (on e store table) (call request) t (sym (z e table k h)))
 
-    -- row 0 refuses
-    pub zero-refuses : triesZero request ≡ true → (ltb places (store .count) || corrupt values) ≡ true → AtTable (λ s. refusal s call ≡ some 0)
-    zero-refuses t z table k h = rw (t, ← (zero-is table k h), z)
+    -- ---- a question
 
-    pub zero-served : (triesZero request && (ltb places (store .count) || corrupt values)) ≡ true → (r : Decision)
-        → r ≡ record { answer = of.Refused 0; store = store; sites = sites; n = 0 } → Served e store sites places request input buffer r buffer
-    zero-served t r q =
-        let z = ltb places (store .count) || corrupt values in
-        let b = passes (triesZero request && z) t in
-        refuses 0 (zero-refuses (is-true (triesZero request) (and-l (triesZero request) z b)) (is-true z (and-r (triesZero request) z b))) r q
+    pub asked : (request : Request) (a : Answer) (last : List ℕ) → Question request
+        → AtTable e (λ s. record { answer = told a; buffer = last } ≡ step s (call request) .reply) → Answered a → Goes request last
+    asked request a last u f q =
+        record {
+          steps = λ table k h.
+              let s = on e store table in
+              let c = call request in
+              kept a q last table k h ∙ ap (λ (x : Reply). stays s x) (f table k h)
+              ∙ ap (λ (x : State). record { after = x; reply = step s c .reply }) (sym (question-leaves (refusal s c) s c request u));
+          few = none-go a q 512;
+          room = none-go a q places;
+        }
 
-    -- the row for a call by the values
-    pub row-is : Sound → AtTable (λ s. refusal s call ≡ rowFor model call request)
-    row-is s table k h = rw (not-zero table k h s, and-false (triesZero request), same-model table k h s)
+    -- ---- load
+
+    pub load-refused : (n : ℕ) → readList e places input ≡ refused n → Answered (of.Refused n) → Goes Load buffer
+    load-refused n o =
+        refuses Load n
+        (λ table k h. steps.load-refused (on e store table) (call Load) n refl (subst (λ (m : ℕ). readList e m input ≡ refused n) k o))
+
+    pub load-read : (l : Listing) → readList e places input ≡ passed l
+        → r ≡ record { answer = of.Done; store = bare (length (l .sites)); sites = filled 512 (l .sites) noSite; n = length (l .sites) } → Goes Load buffer
+    unfolding overlay
+    load-read l o q =
+        let d = list-read e places input o in
+        let n : r .n ≡ length (l .sites) = ap (λ (x : Decision). x .n) q in
+        record {
+          steps = λ table k h. rw (q, take-append-seam)
+              (sym (steps.load-read (on e store table) (call Load) l refl (subst (λ (m : ℕ). readList e m input ≡ passed l) k o) .0));
+          few = omega (arith, d .few, d .count);
+          room = omega (arith, d .room, d .count);
+        }
+
+    module _ (wide : length sites ≡ 512) (zero : Zero false) where
+      -- ---- propose
+
+      pub propose-refused : (n : ℕ) → judgedFor e (listing list) input ≡ refused n → Answered (of.Refused n) → Goes Propose buffer
+      propose-refused n j =
+          refuses Propose n
+          (λ table k h.
+          steps.proposal-refused (on e store table) (call Propose) (sym (zero e table k h)) n refl
+          (subst (λ (l : Listing). judgedFor e l input ≡ refused n) (same-list wide zero e table k h) j))
+
+      pub propose-passed : (p : Plan) → judgedFor e (listing list) input ≡ passed p → r ≡ takes store (planArray p) sites → Goes Propose buffer
+      propose-passed p j q =
+          let z : r .n ≡ 0 = ap (λ (x : Decision). x .n) q in
+          record {
+            steps = λ table k h. rw (q, overlay-none sites table)
+                (sym (steps.proposal-passed (on e store table) (call Propose) (sym (zero e table k h)) p refl
+                (subst (λ (l : Listing). judgedFor e l input ≡ passed p) (same-list wide zero e table k h) j) .0));
+            few = omega arith;
+            room = omega arith;
+          }
+
+      -- ---- change
+
+      module _ (i w : ℕ) where
+        pub change-refused : (n : ℕ) → ChangeRow i w (verdict.Refused n) → Answered (of.Refused n) → Goes (Change i w) buffer
+        change-refused n v =
+            refuses (Change i w) n
+            (λ table k h.
+            let s = on e store table in
+            let z = sym (zero e table k h) in
+            let c = call (Change i w) in
+            steps.change-refused s c z i w n refl (sym (v (modelOf s) c (steps.held-count s z .2))))
+
+        pub change-made : ChangeRow i w verdict.Passes → r ≡ record { answer = of.Done; store = bare (store .count); sites = set sites i (withLitres (getD sites i noSite) w); n = store .count }
+            → Goes (Change i w) buffer
+        change-made v q =
+            let n : r .n ≡ store .count = ap (λ (x : Decision). x .n) q in
+            let l = change-held wide zero i w v .0 in
+            record {
+              steps = λ table k h.
+                  let f = same-front sites table places h (store .count) (few wide zero) (room wide zero) in
+                  let x : getD sites i noSite ≡ getD (take (store .count) table) i noSite =
+                  sym (getD-take (store .count) sites i noSite l) ∙ ap (λ (xs : List Site). getD xs i noSite) f in
+                  rw (q, overlay-set (store .count) sites table i (withLitres (getD sites i noSite) w) l f, x)
+                  (sym (change-step wide zero i w v (call (Change i w)) refl e table k h .0));
+              few = omega (arith, few wide zero);
+              room = omega (arith, room wide zero);
+            }
+
+      -- ---- add
+
+      module _ (x : Site) where
+        pub add-refused : (n : ℕ) → AddRow x (verdict.Refused n) → Answered (of.Refused n) → Goes (another x) buffer
+        add-refused n v =
+            refuses (another x) n
+            (λ table k h.
+            let s = on e store table in
+            let z = sym (zero e table k h) in
+            let c = call (another x) in
+            steps.add-refused s c z (x .first) (x .second) (x .litres) n refl (sym (v (modelOf s) c (steps.held-count s z .2) (sym k))))
+
+        pub add-made : AddRow x verdict.Passes → r ≡ record { answer = of.Done; store = bare (store .count + 1); sites = set sites (store .count) x; n = store .count + 1 }
+            → Goes (another x) buffer
+        add-made v q =
+            let n : r .n ≡ store .count + 1 = ap (λ (y : Decision). y .n) q in
+            let l = add-room wide zero x v in
+            record {
+              steps = λ table k h.
+                  let f = same-front sites table places h (store .count + 1) (omega (arith, l .0)) (omega (arith, l .1)) in
+                  rw (q, overlay-set (store .count + 1) sites table (store .count) x (omega arith) f)
+                  (sym (add-step wide zero x v (call (another x)) refl e table k h .0));
+              few = omega (arith, l .0);
+              room = omega (arith, l .1);
+            }

@@ -5,3 +5,4 @@ pub mod OneModel
 pub mod History
 pub mod Examples
 pub mod LastPassed
+pub mod Widths

@@ -4,3 +4,4 @@ pub mod State
 pub mod Trace
 pub mod Decide
 pub mod Examples
+pub mod Widths

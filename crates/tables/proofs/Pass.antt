@@ -37,7 +37,7 @@ pub table-fits : (list : ListArray) (plan : PlanArray) (places sizes : List ℕ)
     → w * getD sizes k 0 < 2 ^ 42
 table-fits list plan places sizes t k w l m = product-lt w _ m (omega (arith, t .size k l, size-few list (groupsIn list plan) k))
 
-module _ (list : ListArray) (plan : PlanArray) (shares places sizes : List ℕ) (z : shares ≡ plan .shares) (t : Tables list plan places sizes) (i : ℕ) (l : i < list .count) where
+module _ (list : ListArray) (plan : PlanArray) (places sizes : List ℕ) (t : Tables list plan places sizes) (i : ℕ) (l : i < list .count) where
   abbrev site : Site
   site = getD (list .sites) i noSite
 
@@ -45,7 +45,7 @@ module _ (list : ListArray) (plan : PlanArray) (shares places sizes : List ℕ) 
   laterAt = max (getD places (site .first) 0) (getD places (site .second) 0)
 
   abbrev share : ℕ
-  share = getD shares i 0
+  share = getD (plan .shares) i 0
 
   module _ (k : ℕ) (e : k ≡ laterAt) where
     -- a site without a group: then the groups are not the listed depots
@@ -62,7 +62,7 @@ module _ (list : ListArray) (plan : PlanArray) (shares places sizes : List ℕ) 
       here : Ready list plan → Entry (net list) (groupsIn list plan) (sharesIn list plan) i site (getD places (site .first) 0) (getD places (site .second) 0) all share
       here r =
           subst (λ n. Entry (net list) (groupsIn list plan) (sharesIn list plan) i site (getD places (site .first) 0) (getD places (site .second) 0) n share) (sym all-is)
-          (subst (λ ss. Entry (net list) (groupsIn list plan) (sharesIn list plan) i site (getD places (site .first) 0) (getD places (site .second) 0) (site .litres * getD sizes laterAt 0) (getD ss i 0)) (sym z) (entry list plan r places sizes t i l))
+          (entry list plan r places sizes t i l)
 
       module _ (x : Bool) (b : (N : Network) (gs ss : List ℕ) (j : ℕ) → Entry N gs ss j site (getD places (site .first) 0) (getD places (site .second) 0) all share → x ≡ shareBroken N gs ss j) where
         -- a share that breaks a rule

@@ -20,7 +20,7 @@ use Rattle.tables.specs.declared.Verdict.the-variants.{Passes, Refused}
 use Rattle.tables.specs.declared.Tally.{Tally}
 use Rattle.tables.specs.declared.Form.{Form}
 use Rattle.tables.specs.Verdict.{verdict}
-use Rattle.tables.specs.Tables.{net, groupsIn, sharesIn, Holds, Counted, Ready, Tables, Litres, Lent, Tallied, partOf, Parts, Levels, formRows, Kept, Formed, Small}
+use Rattle.tables.specs.Tables.{net, groupsIn, sharesIn, Holds, Counted, Ready, Tables, Litres, Tallied, partOf, Parts, Levels, formRows, Kept, Formed, Small}
 use Rattle.density.proofs.Lists.{valid}
 use Rattle.tables.proofs.Arrays.{from-zero}
 use Rattle.tables.proofs.Groups.{unlisted-is, listed-is}
@@ -149,16 +149,16 @@ formed list plan n wide deep low places sizes tabled t ws long found v e =
     is = e ∙ form-rows (net list) (groupsIn list plan) (sharesIn list plan) (t .listed) (t .broken) (found .0) (λ u. found .1 (ready list plan n wide deep low u) .broken)
 
 -- what the scaled loads are summed from, and what row 15 is tried on
-module _ {list : ListArray} {plan : PlanArray} {r : Form} {ws : List ℕ} (k : Kept list plan r ws) (shares : List ℕ) (v : Lent plan shares) where
-  pub kept-parts : Parts list shares ws
-  kept-parts = parts list plan (k .ready) shares ws v (k .wholes) (k .shares)
+module _ {list : ListArray} {plan : PlanArray} {r : Form} {ws : List ℕ} (k : Kept list plan r ws) (many : length (plan .shares) ≡ 512) where
+  pub kept-parts : Parts list (plan .shares) ws
+  kept-parts = parts list plan (k .ready) many ws (k .wholes) (k .shares)
 
-  pub kept-levels : (sums : List ℕ) → Holds sums (λ d. getD (replicate 64 0) d 0 + sum (partOf list shares ws d) (list .count)) 64 → Levels list plan (r .listed) (r .places) (r .litres) sums
+  pub kept-levels : (sums : List ℕ) → Holds sums (λ d. getD (replicate 64 0) d 0 + sum (partOf list (plan .shares) ws d) (list .count)) 64 → Levels list plan (r .listed) (r .places) (r .litres) sums
   kept-levels sums h =
       record {
         ready = k .ready;
         listed = k .listed;
         place = k .tables .place;
         litres = k .litres .1;
-        loads = parts-load list plan (k .ready) shares ws v (k .wholes) sums (from-zero sums _ h);
+        loads = parts-load list plan (k .ready) many ws (k .wholes) sums (from-zero sums _ h);
       }

@@ -66,9 +66,9 @@ pub record Litres (list : ListArray) (places litres : List ℕ) : Type 0 where
   pub is : (gs : List ℕ) → Holds places (place gs) 64 → Holds litres (groupLitres (net list) gs) 64
   pub low : (k : ℕ) → k < 64 → getD litres k 0 ≤ 512 * 2 ^ 32
 
--- a plan's shares, lent beside it so that they are not copied
-abbrev pub Lent : PlanArray → List ℕ → Type 0
-Lent plan shares = (shares ≡ plan .shares) × (length shares ≡ 512)
+-- the plan whose count, groups and shares are lent as parts, so that no array is copied
+abbrev pub lentPlan : ℕ → List ℕ → List ℕ → PlanArray
+lentPlan count groups shares = record { count = count; groups = groups; shares = shares }
 
 -- w × q of each site
 abbrev pub Wholes : ListArray → PlanArray → List ℕ → Type 0

@@ -3,7 +3,7 @@ use density::Site;
 use records::ListArray;
 ghost use mathlib.Core.Path.{_≡_};
 ghost use mathlib.Core.Bool.{cond};
-ghost use Prim.Native.Nat.{_*_, _<_, _≤_, _^_, max};
+ghost use Prim.Native.Nat.{_<_, _≤_, _^_, max};
 ghost use lib.Dec.{T};
 ghost use lib.ListN.{length, getD};
 ghost use Rattle.sets.specs.Set.{_∪_, has, setOf};
@@ -121,16 +121,6 @@ pub fn litres_of(s: Site) -> u64
     ensures { λ r. ⌜ (r ≡ s .litres) × (r < 2 ^ 32) ⌝ }
 {
     s.litres as u64
-}
-
-// w × q of a site, for q up to 576, over crews (`Parts` in `specs/Tables.antt`).
-pub fn whole(s: Site, places: &[u8], sizes: &[u64]) -> u64
-    requires { ⌜ (s .first < 64) × (s .second < 64) × (length (now places) ≡ 64) × (length (now sizes) ≡ 64) ⌝ }
-    requires { ⌜ (max (getD (now places) (s .first) 0) (getD (now places) (s .second) 0) < 64) × (getD (now sizes) (max (getD (now places) (s .first) 0) (getD (now places) (s .second) 0)) 0 ≤ 576) ⌝ }
-    ensures { λ r. ⌜ (r ≡ s .litres * getD (now (sizes .entry)) (max (getD (now (places .entry)) (s .first) 0) (getD (now (places .entry)) (s .second) 0)) 0) × (r < 2 ^ 42) ⌝ }
-{
-    let k = later(places[s.first as usize], places[s.second as usize]);
-    litres_of(s) * sizes[k as usize]
 }
 
 // W of each group, in one pass over the sites.

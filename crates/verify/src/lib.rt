@@ -5,24 +5,25 @@ use tables::Form;
 use tables::Tally;
 use tables::Verdict;
 ghost use mathlib.Core.Path.{_≡_};
-ghost use lib.ListN.{length, take};
+ghost use lib.ListN.{length};
 ghost use Rattle.sets.specs.Set.{setOf};
 ghost use Rattle.density.specs.Rows.{firstRow, planRows};
 ghost use Rattle.tables.specs.Verdict.{verdict};
-ghost use Rattle.tables.specs.Tables.{net, groupsIn, sharesIn, Counted, Ready, Tables, Lent, Tallied, Formed};
+ghost use Rattle.tables.specs.Tables.{net, groupsIn, sharesIn, Counted, Ready, Tables, lentPlan, Tallied, Formed};
 
 // One pass over the sites: the listed depots and W of each group; w × q of each site goes to `wholes`.
 // It ends at a share that breaks a rule, and at a site without a group: there the groups are not the listed depots, and row 13 refuses the plan.
 fn add_up(
     list: ListArray,
-    plan: PlanArray,
+    count: usize,
+    sets: &[u64],
     shares: &[u64],
     places: &[u8],
     sizes: &[u64],
     wholes: &mut [u64],
 ) -> Tally
-    requires { ⌜ Counted list plan × Tables list plan (now places) (now sizes) × Lent plan (now shares) × (length (now wholes) ≡ 512) ⌝ }
-    ensures { λ r. ⌜ (r .listed ≡ setOf (net list .listed) 64) × (Ready list plan → Tallied list plan (now (places .entry)) r (now (wholes .exit))) ⌝ }
+    requires { ⌜ Counted list (lentPlan count (now sets) (now shares)) × Tables list (lentPlan count (now sets) (now shares)) (now places) (now sizes) × (length (now shares) ≡ 512) × (length (now wholes) ≡ 512) ⌝ }
+    ensures { λ r. ⌜ (r .listed ≡ setOf (net list .listed) 64) × (Ready list (lentPlan count (now (sets .entry)) (now (shares .entry))) → Tallied list (lentPlan count (now (sets .entry)) (now (shares .entry))) (now (places .entry)) r (now (wholes .exit))) ⌝ }
 {
     let mut set: u64 = 0;
     let mut litres = [0u64; 64];
@@ -33,7 +34,7 @@ fn add_up(
         let a = places[s.first as usize];
         let b = places[s.second as usize];
         let k = tables::later(a, b) as usize;
-        if plan.count <= k {
+        if count <= k {
             return Tally {
                 listed: tables::listed(list),
                 broken: true,
@@ -62,16 +63,20 @@ fn add_up(
 }
 
 // Rows 12 to 14, and what the later rows are tried on; w × q of each site goes to `wholes`.
-fn try_form(list: ListArray, plan: PlanArray, shares: &[u64], wholes: &mut [u64]) -> Form
-    requires { ⌜ Counted list plan × Lent plan (now shares) × (length (now wholes) ≡ 512) ⌝ }
-    ensures { λ r. ⌜ Formed list plan r (now (wholes .exit)) ⌝ }
+pub fn try_form(
+    list: ListArray,
+    count: usize,
+    sets: &[u64],
+    shares: &[u64],
+    wholes: &mut [u64],
+) -> Form
+    requires { ⌜ Counted list (lentPlan count (now sets) (now shares)) × (length (now sets) ≡ 64) × (length (now shares) ≡ 512) × (length (now wholes) ≡ 512) ⌝ }
+    ensures { λ r. ⌜ Formed list (lentPlan count (now (sets .entry)) (now (shares .entry))) r (now (wholes .exit)) ⌝ }
 {
-    let n = plan.count;
-    let sets = plan.groups;
-    let groups = &sets[..n];
+    let groups = &sets[..count];
     let at = tables::places(groups);
     let q = tables::sizes(groups);
-    let t = add_up(list, plan, shares, &at, &q, wholes);
+    let t = add_up(list, count, sets, shares, &at, &q, wholes);
     let verdict = rows::form_of(groups, t.listed, t.broken);
     let litres = t.litres;
     Form {
@@ -83,25 +88,15 @@ fn try_form(list: ListArray, plan: PlanArray, shares: &[u64], wholes: &mut [u64]
     }
 }
 
-// Rows 12 to 14.
-pub fn form_row(list: ListArray, plan: PlanArray) -> Verdict
-    requires { ⌜ Counted list plan ⌝ }
-    ensures { λ r. ⌜ r ≡ verdict (firstRow (take 3 (planRows (net list) (groupsIn list plan) (sharesIn list plan)))) ⌝ }
-{
-    let shares = plan.shares;
-    let mut wholes = [0u64; 512];
-    let f = try_form(list, plan, &shares, &mut wholes);
-    f.verdict
-}
-
 // Rows 12 to 16.
 pub fn plan_row(list: ListArray, plan: PlanArray) -> Verdict
     requires { ⌜ Counted list plan ⌝ }
     ensures { λ r. ⌜ r ≡ verdict (firstRow (planRows (net list) (groupsIn list plan) (sharesIn list plan))) ⌝ }
 {
+    let sets = plan.groups;
     let shares = plan.shares;
     let mut wholes = [0u64; 512];
-    let f = try_form(list, plan, &shares, &mut wholes);
+    let f = try_form(list, plan.count, &sets, &shares, &mut wholes);
     let verdict = f.verdict;
     if let Verdict::Refused(row) = verdict {
         return Verdict::Refused(row);

@@ -14,11 +14,45 @@ ghost use Rattle.records.specs.Values.{listing, planIn};
 ghost use Rattle.records.specs.Write.{place, onto, markBytes, siteBytes, listBytes, planBytes, Written};
 ghost use Rattle.records.specs.Format.{siteSize};
 
+// Puts the two, four or eight low bytes of `x` at a place of `out`, without a loop.
+fn put_two(out: &mut [u8], at: usize, x: u64)
+    requires { ⌜ at + 2 ≤ length (now out) ⌝ }
+    ensures { λ _. ⌜ now (out .exit) ≡ place at (le 2 x) (now (out .entry)) ⌝ }
+{
+    out[at] = (x % 256) as u8;
+    out[at + 1] = (x / 256 % 256) as u8;
+}
+
+fn put_four(out: &mut [u8], at: usize, x: u64)
+    requires { ⌜ at + 4 ≤ length (now out) ⌝ }
+    ensures { λ _. ⌜ now (out .exit) ≡ place at (le 4 x) (now (out .entry)) ⌝ }
+{
+    put_two(out, at, x);
+    put_two(out, at + 2, x / 65536);
+}
+
+fn put_eight(out: &mut [u8], at: usize, x: u64)
+    requires { ⌜ at + 8 ≤ length (now out) ⌝ }
+    ensures { λ _. ⌜ now (out .exit) ≡ place at (le 8 x) (now (out .entry)) ⌝ }
+{
+    put_four(out, at, x);
+    put_four(out, at + 4, x / 4294967296);
+}
+
 // Puts the `w` low bytes of `x` at a place of `out`.
 pub fn number_at(out: &mut [u8], at: usize, w: usize, x: u64)
     requires { ⌜ at + w ≤ length (now out) ⌝ }
     ensures { λ _. ⌜ now (out .exit) ≡ place at (le w x) (now (out .entry)) ⌝ }
 {
+    if w == 4 {
+        return put_four(out, at, x);
+    }
+    if w == 2 {
+        return put_two(out, at, x);
+    }
+    if w == 8 {
+        return put_eight(out, at, x);
+    }
     number::put(&mut out[at..at + w], x);
 }
 
@@ -45,18 +79,13 @@ pub fn records(out: &mut [u8], mark: u64, w: usize, xs: &[u64])
     }
 }
 
-// Writes a plan of `g` groups and `n` shares at the front of `out`; the shares go into what remains of it behind the groups.
-fn plan_of(
-    e: Edition,
-    groups: [u64; 64],
-    g: usize,
-    shares: [u64; 512],
-    n: usize,
-    out: &mut [u8],
-) -> Wrote
-    requires { ⌜ (e .share ≤ 8) × (g ≤ 64) × (n ≤ 512) ⌝ }
-    ensures { λ r. ⌜ Written (planBytes e (record { groups = take g groups; shares = take n shares })) (now (out .entry)) r (now (out .exit)) ⌝ }
+// Writes a plan of some groups and shares at the front of `out`; the shares go into what remains of it behind the groups.
+pub fn plan_of(e: Edition, groups: &[u64], shares: &[u64], out: &mut [u8]) -> Wrote
+    requires { ⌜ (e .share ≤ 8) × (length (now groups) ≤ 64) × (length (now shares) ≤ 512) ⌝ }
+    ensures { λ r. ⌜ Written (planBytes e (record { groups = now (groups .entry); shares = now (shares .entry) })) (now (out .entry)) r (now (out .exit)) ⌝ }
 {
+    let g = groups.len();
+    let n = shares.len();
     let w = e.share;
     let at = 5 + 10 * g;
     let end = at + (2 + w) * n;
@@ -66,8 +95,8 @@ fn plan_of(
     number_at(out, 0, 2, e.mark.plan);
     number_at(out, 2, 1, g as u64);
     number_at(out, 3, 2, n as u64);
-    records(&mut out[5..], e.mark.group, 8, &groups[..g]);
-    records(&mut out[at..], e.mark.share, w, &shares[..n]);
+    records(&mut out[5..], e.mark.group, 8, groups);
+    records(&mut out[at..], e.mark.share, w, shares);
     Wrote::Length(end)
 }
 
@@ -78,7 +107,7 @@ pub fn plan(e: Edition, p: PlanArray, n: usize, out: &mut [u8]) -> Wrote
 {
     let groups = p.groups;
     let shares = p.shares;
-    plan_of(e, groups, p.count, shares, n, out)
+    plan_of(e, &groups[..p.count], &shares[..n], out)
 }
 
 // Puts a site's record at a place of `out`.

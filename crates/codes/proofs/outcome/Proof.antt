@@ -33,33 +33,39 @@ enum-told-2 c = search needs
 
 returns : tie.Need-returns
 returns c =
-    outcome-eq (read-back (c .row .ok) ∙ c .row .ensures) (toZ-ofZ {w = w64} (c .before .before .before .before .fits .difference))
-    ∙ ap (λ (t : Told). outcomeOf t (c .before .before .before .before .args .first) (c .before .before .before .before .args .second) (c .before .before .before .before .args .difference)) (sym (ap told (c .before .before .a .given .1)))
+    let entry = c .before .before .before .before in
+    outcome-eq (read-back (c .row .ok) ∙ c .row .ensures) (toZ-ofZ {w = w64} (entry .fits .difference))
+    ∙ ap (λ (t : Told). outcomeOf t (entry .args .first) (entry .args .second) (entry .args .difference)) (sym (ap told (c .before .before .a .given .1)))
 
 returns-2 : tie.Need-returns-2
 returns-2 c =
-    outcome-eq refl (toZ-ofZ {w = w64} (c .before .before .fits .difference))
-    ∙ ap (λ (t : Told). outcomeOf t (c .before .before .args .first) (c .before .before .args .second) (c .before .before .args .difference)) (sym (ap told (c .enum-told .given .1)))
+    let entry = c .before .before in
+    outcome-eq refl (toZ-ofZ {w = w64} (entry .fits .difference))
+    ∙ ap (λ (t : Told). outcomeOf t (entry .args .first) (entry .args .second) (entry .args .difference)) (sym (ap told (c .enum-told .given .1)))
 
 returns-3 : tie.Need-returns-3
 returns-3 c =
-    outcome-eq refl (toZ-ofZ {w = w64} (c .before .before .before .fits .difference))
-    ∙ ap (λ (t : Told). outcomeOf t (c .before .before .before .args .first) (c .before .before .before .args .second) (c .before .before .before .args .difference)) (sym (ap told (c .before .a2 .given .1)))
+    let entry = c .before .before .before in
+    outcome-eq refl (toZ-ofZ {w = w64} (entry .fits .difference))
+    ∙ ap (λ (t : Told). outcomeOf t (entry .args .first) (entry .args .second) (entry .args .difference)) (sym (ap told (c .before .a2 .given .1)))
 
 returns-4 : tie.Need-returns-4
 returns-4 c =
-    outcome-eq refl (toZ-ofZ {w = w64} (c .before .before .before .fits .difference))
-    ∙ ap (λ (t : Told). outcomeOf t (c .before .before .before .args .first) (c .before .before .before .args .second) (c .before .before .before .args .difference)) (sym (ap told (c .before .a3 .given .1)))
+    let entry = c .before .before .before in
+    outcome-eq refl (toZ-ofZ {w = w64} (entry .fits .difference))
+    ∙ ap (λ (t : Told). outcomeOf t (entry .args .first) (entry .args .second) (entry .args .difference)) (sym (ap told (c .before .a3 .given .1)))
 
 returns-5 : tie.Need-returns-5
 returns-5 c =
+    let entry = c .before .before .before in
     outcome-eq refl (read-back (c .known-told4 .given .0 .1))
-    ∙ ap (λ (t : Told). outcomeOf t (c .before .before .before .args .first) (c .before .before .before .args .second) (c .before .before .before .args .difference)) (sym (ap told (c .before .a4 .given .1)))
+    ∙ ap (λ (t : Told). outcomeOf t (entry .args .first) (entry .args .second) (entry .args .difference)) (sym (ap told (c .before .a4 .given .1)))
 
 returns-6 : tie.Need-returns-6
 returns-6 c =
-    outcome-eq refl (toZ-ofZ {w = w64} (c .before .before .fits .difference))
-    ∙ ap (λ (t : Told). outcomeOf t (c .before .before .args .first) (c .before .before .args .second) (c .before .before .args .difference)) (sym (ap told (c .enum-told2 .given .1)))
+    let entry = c .before .before in
+    outcome-eq refl (toZ-ofZ {w = w64} (entry .fits .difference))
+    ∙ ap (λ (t : Told). outcomeOf t (entry .args .first) (entry .args .second) (entry .args .difference)) (sym (ap told (c .enum-told2 .given .1)))
 
 pub outcome-spec : {M : Type 1} → statement M
 outcome-spec =

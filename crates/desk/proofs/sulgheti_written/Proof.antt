@@ -1,30 +1,53 @@
 -- `desk::sulgheti_written` meets its contract. Assumes nothing.
+use mathlib.Core.List.{[]}
 use mathlib.Core.Path.{_∙_}
 use Rattle.signed.proofs.Signed.{read-back}
-use Rattle.codes.proofs.DeskCodes.{wrote-out, length-held}
+use Rattle.codes.proofs.DeskCodes.{no-bytes, is-store, no-store, asks, not-written, wrote-out, length-held}
 use borrow.Author.Needs.{needs}
 use Rattle.desk.proofs.sulgheti_written.Statement.{statement}
 use Rattle.desk.proofs.sulgheti_written.Tie as tie
 
-call-into-requires : tie.Need-call-into-requires
-call-into-requires c κs = search needs
+is-store1-requires : tie.Need-is-store1-requires
+is-store1-requires c κs = search needs
+
+returns : tie.Need-returns
+returns c = not-written (no-store (c .before .is-store1 .ensures) (c .if1 .taken)) no-bytes
+
+edition1-requires : tie.Need-edition1-requires
+edition1-requires c κs = search needs
+
+look-requires : tie.Need-look-requires
+look-requires c κs =
+    let tested = c .before .before in
+    let entry = tested .before .before .before .before .before in
+    asks (entry .args .store .now) (c .before .edition1 .ensures) (is-store (tested .before .is-store1 .ensures) (tested .if1 .left))
 
 written-requires : tie.Need-written-requires
-written-requires c κs = length-held (c .before .before .before .before .before .before .before .before .before .before .before .before .before .args .buffer .now) (c .before .before .before .before .before .before .call-into .ensures) (c .before .before .before .before .before .before .before .before .before .before .before .before .before .good .1 .1 .0 .1)
+written-requires c κs =
+    let looked = c .before .before in
+    let tested = looked .before .before .before in
+    let entry = tested .before .before .before .before .before in
+    length-held (entry .args .buffer .now) (looked .look .ensures [] no-bytes tt) (entry .good .1 .1 .0 .1)
 
 same-length : tie.Need-same-length
 same-length c = search needs
 
-same-length-2 : tie.Need-same-length-2
-same-length-2 c = search needs
-
-same-length-3 : tie.Need-same-length-3
-same-length-3 c = search needs
-
-returns : tie.Need-returns
-returns c = wrote-out (c .before .before .before .before .before .before .before .call-into .ensures) (read-back (c .written .ok) ∙ c .written .ensures)
+returns-2 : tie.Need-returns-2
+returns-2 c =
+    let looked = c .before .before .before in
+    let edition = looked .before .before in
+    let tested = edition .before in
+    wrote-out (is-store (tested .before .is-store1 .ensures) (tested .if1 .left)) (rw (edition .edition1 .ensures) at (looked .look .ensures [] no-bytes tt))
+    (read-back (c .written .ok) ∙ c .written .ensures)
 
 pub sulgheti-written-spec : {M : Type 1} → statement M
 sulgheti-written-spec =
     tie.close
-    (tie.spec call-into-requires written-requires same-length same-length-2 same-length-3 returns)
+    (tie.spec
+    is-store1-requires
+    returns
+    edition1-requires
+    look-requires
+    written-requires
+    same-length
+    returns-2)

@@ -1,8 +1,7 @@
 -- `edition1::serve1` meets its contract. Assumes nothing.
 use mathlib.Core.Path.{sym, subst}
-use Prim.Native.Nat.{_≤_}
 use lib.Dec.{lit≤}
-use Rattle.records.specs.declared.Edition.{Edition}
+use Rattle.store.specs.Widths.{Fitting}
 use Rattle.edition1.proofs.Edition1Widths.{widened-serves}
 use borrow.Author.Needs.{needs}
 use Rattle.edition1.proofs.serve1.Statement.{statement}
@@ -21,7 +20,7 @@ edition1-requires : tie.Need-edition1-requires
 edition1-requires c κs = search needs
 
 serve-requires : tie.Need-serve-requires
-serve-requires c κs = subst (λ (e : Edition). (e .litres ≤ 4) × (e .share ≤ 8)) (sym (c .before .edition1 .ensures)) (lit≤ tt, lit≤ tt)
+serve-requires c κs = subst Fitting (sym (c .before .edition1 .ensures)) (lit≤ tt, lit≤ tt)
 
 narrow-store-requires : tie.Need-narrow-store-requires
 narrow-store-requires c κs = search needs

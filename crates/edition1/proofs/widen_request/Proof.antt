@@ -1,11 +1,8 @@
 -- `edition1::widen_request` meets its contract. Assumes nothing.
 use mathlib.Core.Path.{sym, ap}
-use Prim.Native.Nat.{_^_}
 use native.Mathlib.Omega.{arith}
 use borrow.Author.Needs.{needs}
-use Rattle.store.specs.declared.Request.the-variants.{Load, Change, Add, Propose, Share, Depot, Difference, Written}
 use Rattle.edition1.specs.Edition1.{requestOf1}
-use Rattle.edition1.proofs.Edition1Fits.{bounded}
 use Rattle.edition1.proofs.widen_request.Statement.{statement}
 use Rattle.edition1.proofs.widen_request.Tie as tie
 
@@ -40,28 +37,28 @@ enum-told-3 : tie.Need-enum-told-3
 enum-told-3 c = search needs
 
 returns : tie.Need-returns
-returns c = (search needs, bounded (2 ^ 16) Load tt)
+returns c = (search needs, tt)
 
 returns-2 : tie.Need-returns-2
-returns-2 c = (sym (ap requestOf1 (c .before .q .given .1)), bounded (2 ^ 16) (Change _ _) (omega (arith, c .known-told .given)))
+returns-2 c = (sym (ap requestOf1 (c .before .q .given .1)), omega (arith, c .known-told .given))
 
 returns-3 : tie.Need-returns-3
-returns-3 c = (sym (ap requestOf1 (c .before .q2 .given .1)), bounded (2 ^ 16) (Add _ _ _) (omega (arith, c .known-told2 .given)))
+returns-3 c = (sym (ap requestOf1 (c .before .q2 .given .1)), omega (arith, c .known-told2 .given))
 
 returns-4 : tie.Need-returns-4
-returns-4 c = (search needs, bounded (2 ^ 16) Propose tt)
+returns-4 c = (search needs, tt)
 
 returns-5 : tie.Need-returns-5
-returns-5 c = (sym (ap requestOf1 (c .before .q3 .given .1)), bounded (2 ^ 16) (Share _) tt)
+returns-5 c = (sym (ap requestOf1 (c .before .q3 .given .1)), tt)
 
 returns-6 : tie.Need-returns-6
-returns-6 c = (sym (ap requestOf1 (c .before .q4 .given .1)), bounded (2 ^ 16) (Depot _) tt)
+returns-6 c = (sym (ap requestOf1 (c .before .q4 .given .1)), tt)
 
 returns-7 : tie.Need-returns-7
-returns-7 c = (sym (ap requestOf1 (c .before .q5 .given .1)), bounded (2 ^ 16) (Difference _ _) tt)
+returns-7 c = (sym (ap requestOf1 (c .before .q5 .given .1)), tt)
 
 returns-8 : tie.Need-returns-8
-returns-8 c = (search needs, bounded (2 ^ 16) Written tt)
+returns-8 c = (search needs, tt)
 
 pub widen-request-spec : {M : Type 1} → statement M
 widen-request-spec =

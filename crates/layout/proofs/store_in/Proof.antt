@@ -1,24 +1,40 @@
 -- `layout::store_in` meets its contract. Assumes nothing.
-use mathlib.Core.Path.{sym, _∙_}
-use Rattle.layout.proofs.RoundTrip.{not-sized, not-held, store-read}
+use Prim.Native.Nat.{_≤_}
+use mathlib.Core.Path.{_≡_, sym}
+use native.Mathlib.Nat.{mul-le-mul-left}
+use native.Mathlib.Omega.{arith}
 use borrow.Author.Needs.{needs}
+use lib.ListN.{length, take}
+use lib.Seq.{length-take-le}
+use Rattle.layout.proofs.RoundTrip.{front-read, store-read, store-none}
 use Rattle.layout.proofs.store_in.Statement.{statement}
 use Rattle.layout.proofs.store_in.Tie as tie
 
-no-store-requires : tie.Need-no-store-requires
-no-store-requires c κs = search needs
+-- where both counts are known, from the beginning
+abbrev start : tie.After-least2 → tie.Start
+start c =
+    let f = c .before .before .before in
+    f .before .before .before .before .before .before
 
-returns : tie.Need-returns
-returns c = c .no-store .ensures ∙ sym (not-sized (c .before .before .before .args .s .now) (c .before .if1 .taken))
+-- as many places are lent as there are, and no more than are asked for
+groups-lent : (c : tie.After-least2) → length (take (c .before .least .result) (start c .args .groups .now)) ≡ c .before .least .result
+groups-lent c =
+    let s = start c in
+    length-take-le (c .before .least .result) (s .args .groups .now) (omega (arith, c .before .least .ensures, s .pre .2))
+
+shares-lent : (c : tie.After-least2) → length (take (c .least2 .result) (start c .args .shares .now)) ≡ c .least2 .result
+shares-lent c =
+    let s = start c in
+    length-take-le (c .least2 .result) (s .args .shares .now) (omega (arith, c .least2 .ensures, s .pre .3))
 
 field-requires : tie.Need-field-requires
 field-requires c κs = search needs
 
-no-store-requires-2 : tie.Need-no-store-requires-2
-no-store-requires-2 c κs = search needs
-
-returns-2 : tie.Need-returns-2
-returns-2 c = c .no-store2 .ensures ∙ sym (not-held (c .before .before .before .before .before .args .s .now) (c .before .before .field .ensures) (c .before .if2 .taken))
+returns : tie.Need-returns
+returns c =
+    let f = c .before in
+    let a = f .before .before .before .before .args in
+    store-none (a .w) (a .s .now) (a .groups .now) (a .shares .now) (f .field .ensures) (c .if1 .taken)
 
 field-requires-2 : tie.Need-field-requires-2
 field-requires-2 c κs = search needs
@@ -26,28 +42,76 @@ field-requires-2 c κs = search needs
 field-requires-3 : tie.Need-field-requires-3
 field-requires-3 c κs = search needs
 
-groups-in-requires : tie.Need-groups-in-requires
-groups-in-requires c κs = search needs
+least-requires : tie.Need-least-requires
+least-requires c κs = tt
 
-shares-in-requires : tie.Need-shares-in-requires
-shares-in-requires c κs = search needs
+least-requires-2 : tie.Need-least-requires-2
+least-requires-2 c κs = tt
 
-returns-3 : tie.Need-returns-3
-returns-3 c =
-    store-read (c .before .before .before .before .before .before .before .before .args .s .now) (c .before .before .before .before .before .before .if1 .left) (c .before .before .before .before .before .field .ensures) (c .before .before .before .before .if2 .left) (c .before .before .before .field2 .ensures) (c .before .before .field3 .ensures)
-    (c .before .groups-in .ensures) (c .shares-in .ensures)
+slice-relend-prefix-numbers-in : tie.Need-slice-relend-prefix-numbers-in
+slice-relend-prefix-numbers-in c = omega (arith, c .before .least .ensures, start c .pre .2)
+
+slice-aggregate-numbers-in : tie.Need-slice-aggregate-numbers-in
+slice-aggregate-numbers-in c = sym (groups-lent (c .before))
+
+numbers-in-requires : tie.Need-numbers-in-requires
+numbers-in-requires c κs =
+    let q = c .before in
+    (omega arith, omega (arith, groups-lent q, q .before .least .ensures, start q .pre .1))
+
+-- where the groups are read
+abbrev counted : tie.After-slice-known3 → tie.After-least2
+counted c = c .before .before .before .before
+
+slice-relend-prefix-numbers-in-2 : tie.Need-slice-relend-prefix-numbers-in-2
+slice-relend-prefix-numbers-in-2 c = let q = counted c in omega (arith, q .least2 .ensures, start q .pre .3)
+
+slice-aggregate-numbers-in-2 : tie.Need-slice-aggregate-numbers-in-2
+slice-aggregate-numbers-in-2 c = sym (shares-lent (counted (c .before)))
+
+numbers-in-requires-2 : tie.Need-numbers-in-requires-2
+numbers-in-requires-2 c κs =
+    let q = counted (c .before) in
+    let s = start q in
+    let few : length (take (q .least2 .result) (s .args .shares .now)) ≤ 512 = omega (arith, shares-lent q, q .least2 .ensures) in
+    (s .pre .0, omega (arith, mul-le-mul-left (s .args .w) few, s .pre .1))
+
+same-length : tie.Need-same-length
+same-length c = search needs
+
+same-length-2 : tie.Need-same-length-2
+same-length-2 c = search needs
+
+returns-2 : tie.Need-returns-2
+returns-2 c =
+    let m = c .before .before in
+    let g = m .before .before in
+    let q = counted g in
+    let s = start q in
+    let a = s .args in
+    let f = q .before .before in
+    let i = f .before .before in
+    let n = f .before .field2 .result in
+    store-read (a .w) (a .s .now) (i .before .field .ensures) (i .if1 .left) (f .before .field2 .ensures) (f .field3 .ensures)
+    (front-read 8 (f .field3 .result) 64 24 (a .s .now) (g .before .before .numbers-in .last .0) _ (q .before .least .ensures) (groups-lent q) (g .before .before .numbers-in .ensures))
+    (front-read (a .w) n 512 536 (a .s .now) (m .numbers-in2 .last .0) _ (q .least2 .ensures) (shares-lent q) (m .numbers-in2 .ensures))
 
 pub store-in-spec : {M : Type 1} → statement M
 store-in-spec =
     tie.close
     (tie.spec
-    no-store-requires
-    returns
     field-requires
-    no-store-requires-2
-    returns-2
+    returns
     field-requires-2
     field-requires-3
-    groups-in-requires
-    shares-in-requires
-    returns-3)
+    least-requires
+    least-requires-2
+    slice-relend-prefix-numbers-in
+    slice-aggregate-numbers-in
+    numbers-in-requires
+    slice-relend-prefix-numbers-in-2
+    slice-aggregate-numbers-in-2
+    numbers-in-requires-2
+    same-length
+    same-length-2
+    returns-2)

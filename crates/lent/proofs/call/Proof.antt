@@ -1,28 +1,67 @@
 -- `lent::call` meets its contract. Assumes nothing.
-use mathlib.Core.Path.{sym, _∙_}
-use native.Mathlib.Omega.{arith}
-use Rattle.lent.proofs.Served.{unsized, keeps, puts}
+use mathlib.Core.Path.{sym, subst}
+use Prim.Native.Nat.{_^_}
 use borrow.Author.Needs.{needs}
+use denote.Ref.{now}
+use Rattle.store.specs.Trace.{Question}
+use Rattle.store.specs.Widths.{Named}
+use Rattle.lent.proofs.Served.{called-as}
 use Rattle.lent.proofs.call.Statement.{statement}
 use Rattle.lent.proofs.call.Tie as tie
 
-returns : tie.Need-returns
-returns c =
-    let b = c .before .before in
-    let a = b .before .before .before .args in
-    unsized (a .store .now) (a .table .now) (a .request) (a .input .now) (a .buffer .now) (c .if1 .taken) (λ i. b .shared-slice-known .given i .fits)
+enum-told : tie.Need-enum-told
+enum-told c = search needs
 
-store-in-requires : tie.Need-store-in-requires
-store-in-requires c κs = search needs
+load-requires : tie.Need-load-requires
+load-requires c κs = search needs
 
-sites-in-requires : tie.Need-sites-in-requires
-sites-in-requires c κs = search needs
+enum-known-request : tie.Need-enum-known-request
+enum-known-request c = search needs
 
-serve1-requires : tie.Need-serve1-requires
-serve1-requires c κs = search needs
+change-requires : tie.Need-change-requires
+change-requires c κs =
+    let r = c .before .before .before in
+    let s = r .before .before .before .before .before .before in
+    (s .pre .0, s .pre .1, subst (Named (256 ^ s .args .e .litres)) (r .request .given .1) (s .pre .2))
 
-is-kept-requires : tie.Need-is-kept-requires
-is-kept-requires c κs = search needs
+enum-known-request-2 : tie.Need-enum-known-request-2
+enum-known-request-2 c = search needs
+
+add-requires : tie.Need-add-requires
+add-requires c κs =
+    let r = c .before .before .before in
+    let s = r .before .before .before .before .before .before in
+    (s .pre .0, s .pre .1, subst (Named (256 ^ s .args .e .litres)) (r .request2 .given .1) (s .pre .2))
+
+enum-told-2 : tie.Need-enum-told-2
+enum-told-2 c = search needs
+
+propose-requires : tie.Need-propose-requires
+propose-requires c κs = search needs
+
+enum-told-3 : tie.Need-enum-told-3
+enum-told-3 c = search needs
+
+look-requires : tie.Need-look-requires
+look-requires c κs = search needs
+
+enum-told-4 : tie.Need-enum-told-4
+enum-told-4 c = search needs
+
+look-requires-2 : tie.Need-look-requires-2
+look-requires-2 c κs = search needs
+
+enum-told-5 : tie.Need-enum-told-5
+enum-told-5 c = search needs
+
+look-requires-3 : tie.Need-look-requires-3
+look-requires-3 c κs = search needs
+
+enum-told-6 : tie.Need-enum-told-6
+enum-told-6 c = search needs
+
+look-requires-4 : tie.Need-look-requires-4
+look-requires-4 c κs = search needs
 
 same-length : tie.Need-same-length
 same-length c = search needs
@@ -30,30 +69,26 @@ same-length c = search needs
 same-length-2 : tie.Need-same-length-2
 same-length-2 c = search needs
 
+returns : tie.Need-returns
+returns c =
+    let l = c .before .before .before .before in
+    let r = l .before .before .before in
+    let s = r .before .before .before .before .before .before in
+    called-as (r .enum-told .given .1) (l .load .ensures (now (s .args .buffer)))
+
 same-length-3 : tie.Need-same-length-3
 same-length-3 c = search needs
 
-returns-2 : tie.Need-returns-2
-returns-2 c =
-    let s = c .before .before .before .before in
-    let t = s .before .before in
-    let z = t .before .before in
-    let l = z .before .before in
-    let a = l .before .before .before .before .before .args in
-    keeps (a .store .now) (a .table .now) (a .request) (a .input .now) (a .buffer .now) (l .if1 .left) (z .store-in .ensures) (t .sites-in .ensures)
-    (s .serve1 .ensures) (sym (c .before .is-kept .ensures) ∙ c .if2 .taken)
-
-put-sites-requires : tie.Need-put-sites-requires
-put-sites-requires c κs =
-    let s = c .before .before .before .before .before .before .before in
-    let v = s .serve1 .ensures .1 in
-    (v .few, omega (arith, v .room))
-
-put-store-requires : tie.Need-put-store-requires
-put-store-requires c κs = search needs
-
 same-length-4 : tie.Need-same-length-4
 same-length-4 c = search needs
+
+returns-2 : tie.Need-returns-2
+returns-2 c =
+    let l = c .before .before .before .before in
+    let r = l .before .before .before .before in
+    let f = r .before .before .before in
+    let a = f .before .before .before .args in
+    called-as (r .request .given .1) (l .change .ensures (now (a .input)) (now (a .buffer)) (λ i. f .shared-slice-known .given i .fits))
 
 same-length-5 : tie.Need-same-length-5
 same-length-5 c = search needs
@@ -63,35 +98,138 @@ same-length-6 c = search needs
 
 returns-3 : tie.Need-returns-3
 returns-3 c =
-    let p = c .before .before in
-    let q = p .before .before .before .before in
-    let k = q .before .before .before .before in
-    let s = k .before .before .before .before in
-    let t = s .before .before in
-    let z = t .before .before in
-    let l = z .before .before in
-    let b = l .before .before .before in
-    let a = b .before .before .args in
-    puts (a .store .now) (a .table .now) (a .request) (a .input .now) (a .buffer .now) (l .if1 .left) (z .store-in .ensures) (t .sites-in .ensures)
-    (s .serve1 .ensures) (sym (k .before .is-kept .ensures) ∙ k .if2 .left) (λ i. b .slice-known2 .given i .fits) (q .put-sites .ensures)
-    (p .put-store .ensures) (p .put-store .kept .0)
+    let l = c .before .before .before .before in
+    let r = l .before .before .before .before in
+    let f = r .before .before .before in
+    let a = f .before .before .before .args in
+    called-as (r .request2 .given .1) (l .add .ensures (now (a .input)) (now (a .buffer)) (λ i. f .shared-slice-known .given i .fits))
+
+same-length-7 : tie.Need-same-length-7
+same-length-7 c = search needs
+
+same-length-8 : tie.Need-same-length-8
+same-length-8 c = search needs
+
+returns-4 : tie.Need-returns-4
+returns-4 c =
+    let l = c .before .before in
+    let r = l .before .before .before in
+    let s = r .before .before .before .before .before .before in
+    called-as (r .enum-told2 .given .1) (l .propose .ensures (now (s .args .buffer)))
+
+same-length-9 : tie.Need-same-length-9
+same-length-9 c = search needs
+
+same-length-10 : tie.Need-same-length-10
+same-length-10 c = search needs
+
+same-length-11 : tie.Need-same-length-11
+same-length-11 c = search needs
+
+returns-5 : tie.Need-returns-5
+returns-5 c =
+    let l = c .before .before in
+    let r = l .before .before .before .before in
+    let f = r .before .before .before in
+    let a = f .before .before .before .args in
+    l .look .ensures (now (a .input)) (λ i. f .shared-slice-known .given i .fits) (subst Question (sym (r .enum-told3 .given .1)) tt)
+
+same-length-12 : tie.Need-same-length-12
+same-length-12 c = search needs
+
+same-length-13 : tie.Need-same-length-13
+same-length-13 c = search needs
+
+same-length-14 : tie.Need-same-length-14
+same-length-14 c = search needs
+
+returns-6 : tie.Need-returns-6
+returns-6 c =
+    let l = c .before .before in
+    let r = l .before .before .before .before in
+    let f = r .before .before .before in
+    let a = f .before .before .before .args in
+    l .look2 .ensures (now (a .input)) (λ i. f .shared-slice-known .given i .fits) (subst Question (sym (r .enum-told4 .given .1)) tt)
+
+same-length-15 : tie.Need-same-length-15
+same-length-15 c = search needs
+
+same-length-16 : tie.Need-same-length-16
+same-length-16 c = search needs
+
+same-length-17 : tie.Need-same-length-17
+same-length-17 c = search needs
+
+returns-7 : tie.Need-returns-7
+returns-7 c =
+    let l = c .before .before in
+    let r = l .before .before .before .before in
+    let f = r .before .before .before in
+    let a = f .before .before .before .args in
+    l .look3 .ensures (now (a .input)) (λ i. f .shared-slice-known .given i .fits) (subst Question (sym (r .enum-told5 .given .1)) tt)
+
+same-length-18 : tie.Need-same-length-18
+same-length-18 c = search needs
+
+same-length-19 : tie.Need-same-length-19
+same-length-19 c = search needs
+
+same-length-20 : tie.Need-same-length-20
+same-length-20 c = search needs
+
+returns-8 : tie.Need-returns-8
+returns-8 c =
+    let l = c .before .before in
+    let r = l .before .before .before .before in
+    let f = r .before .before .before in
+    let a = f .before .before .before .args in
+    l .look4 .ensures (now (a .input)) (λ i. f .shared-slice-known .given i .fits) (subst Question (sym (r .enum-told6 .given .1)) tt)
 
 pub call-spec : {M : Type 1} → statement M
 call-spec =
     tie.close
     (tie.spec
-    returns
-    store-in-requires
-    sites-in-requires
-    serve1-requires
-    is-kept-requires
+    enum-told
+    load-requires
+    enum-known-request
+    change-requires
+    enum-known-request-2
+    add-requires
+    enum-told-2
+    propose-requires
+    enum-told-3
+    look-requires
+    enum-told-4
+    look-requires-2
+    enum-told-5
+    look-requires-3
+    enum-told-6
+    look-requires-4
     same-length
     same-length-2
+    returns
     same-length-3
-    returns-2
-    put-sites-requires
-    put-store-requires
     same-length-4
+    returns-2
     same-length-5
     same-length-6
-    returns-3)
+    returns-3
+    same-length-7
+    same-length-8
+    returns-4
+    same-length-9
+    same-length-10
+    same-length-11
+    returns-5
+    same-length-12
+    same-length-13
+    same-length-14
+    returns-6
+    same-length-15
+    same-length-16
+    same-length-17
+    returns-7
+    same-length-18
+    same-length-19
+    same-length-20
+    returns-8)

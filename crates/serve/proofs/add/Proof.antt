@@ -1,73 +1,100 @@
 -- `serve::add` meets its contract. Assumes nothing.
-use mathlib.Core.Path.{sym, _∙_}
+use mathlib.Core.Path.{_≡_, refl, subst}
 use native.Mathlib.Omega.{arith}
-use Rattle.serve.proofs.ServeCalls.{add-room, add-full, add-depots, add-litres, add-made}
+use lib.ListN.{length}
+use Rattle.serve.proofs.ServeRules.{Zero, AddRow, zero-served, add-refused, add-room, add-made}
 use borrow.Author.Needs.{needs}
 use Rattle.serve.proofs.add.Statement.{statement}
 use Rattle.serve.proofs.add.Tie as tie
 
-either-requires : tie.Need-either-requires
-either-requires c κs = search needs
+row-zero-requires : tie.Need-row-zero-requires
+row-zero-requires c κs = search needs
 
 refuse-requires : tie.Need-refuse-requires
 refuse-requires c κs = search needs
 
 returns : tie.Need-returns
-returns c = λ e input buffer. let s = c .before .before .before in add-full e (s .args .store) (s .args .sites) (s .args .places) input buffer _ (s .pre e) (s .args .x) (sym (c .before .before .either .ensures) ∙ c .before .if1 .taken) (c .refuse .ensures)
+returns c = λ e input buffer.
+    let z = c .before in
+    let s = z .before .before in
+    zero-served (s .args .store) (s .args .sites) (s .args .places) e input buffer _ _ refl (subst (Zero (s .args .store) (s .args .sites) (s .args .places)) (z .if1 .taken) (z .before .row-zero .ensures)) (c .refuse .ensures)
 
-either-requires-2 : tie.Need-either-requires-2
-either-requires-2 c κs = search needs
+add-row-requires : tie.Need-add-row-requires
+add-row-requires c κs = search needs
+
+enum-known-verdict : tie.Need-enum-known-verdict
+enum-known-verdict c = search needs
 
 refuse-requires-2 : tie.Need-refuse-requires-2
 refuse-requires-2 c κs = search needs
 
 returns-2 : tie.Need-returns-2
-returns-2 c = λ e input buffer. let s = c .before .before .before .before .before .before .before in add-depots e (s .args .store) (s .args .sites) (s .args .places) input buffer _ (s .pre e) (s .args .x) (sym (c .before .before .before .before .before .before .either .ensures) ∙ c .before .before .before .before .before .if1 .left) (sym (c .before .before .either2 .ensures) ∙ c .before .if2 .taken) (c .refuse2 .ensures)
+returns-2 c = λ e input buffer.
+    let v = c .before .before in
+    let z = v .before .before .before in
+    let s = z .before .before in
+    let wide : length (s .args .sites) ≡ 512 = search needs in
+    let zero = subst (Zero (s .args .store) (s .args .sites) (s .args .places)) (z .if1 .left) (z .before .row-zero .ensures) in
+    let row = subst (AddRow (s .args .store) (s .args .sites) (s .args .places) (s .args .x)) (v .verdict .given .1) (v .before .before .add-row .ensures) in
+    add-refused (s .args .store) (s .args .sites) (s .args .places) e input buffer _ wide zero (s .args .x) _ row (c .refuse2 .ensures)
 
-refuse-requires-3 : tie.Need-refuse-requires-3
-refuse-requires-3 c κs = search needs
-
-returns-3 : tie.Need-returns-3
-returns-3 c = λ e input buffer. let s = c .before .before .before .before .before .before .before .before .before in add-litres e (s .args .store) (s .args .sites) (s .args .places) input buffer _ (s .pre e) (s .args .x) (sym (c .before .before .before .before .before .before .before .before .either .ensures) ∙ c .before .before .before .before .before .before .before .if1 .left) (sym (c .before .before .before .before .either2 .ensures) ∙ c .before .before .before .if2 .left) (c .before .if3 .taken) (c .refuse3 .ensures)
+enum-told : tie.Need-enum-told
+enum-told c = search needs
 
 mul-next : tie.Need-mul-next
-mul-next c = let s = c .before .before .before .before .before .before .before .before in
-    let l = add-room (s .args .store .count) (s .args .places) (sym (c .before .before .before .before .before .before .before .either .ensures) ∙ c .before .before .before .before .before .before .if1 .left) in
-    omega (arith, l .0, l .1)
+mul-next c = let v = c in
+    let z = v .before .before .before in
+    let s = z .before .before in
+    let wide : length (s .args .sites) ≡ 512 = search needs in
+    let zero = subst (Zero (s .args .store) (s .args .sites) (s .args .places)) (z .if1 .left) (z .before .row-zero .ensures) in
+    let row = subst (AddRow (s .args .store) (s .args .sites) (s .args .places) (s .args .x)) (v .enum-told .given .1) (v .before .before .add-row .ensures) in
+    omega (arith, add-room (s .args .store) (s .args .sites) (s .args .places) wide zero (s .args .x) row .0)
 
 array-set-from-next : tie.Need-array-set-from-next
-array-set-from-next c = let s = c .before .before .before .before .before .before .before .before in
-    let l = add-room (s .args .store .count) (s .args .places) (sym (c .before .before .before .before .before .before .before .either .ensures) ∙ c .before .before .before .before .before .before .if1 .left) in
-    omega (arith, l .0, l .1)
+array-set-from-next c = let v = c in
+    let z = v .before .before .before in
+    let s = z .before .before in
+    let wide : length (s .args .sites) ≡ 512 = search needs in
+    let zero = subst (Zero (s .args .store) (s .args .sites) (s .args .places)) (z .if1 .left) (z .before .row-zero .ensures) in
+    let row = subst (AddRow (s .args .store) (s .args .sites) (s .args .places) (s .args .x)) (v .enum-told .given .1) (v .before .before .add-row .ensures) in
+    omega (arith, add-room (s .args .store) (s .args .sites) (s .args .places) wide zero (s .args .x) row .0)
 
 add-without-plan : tie.Need-add-without-plan
-add-without-plan c = let s = c .before .before .before .before .before .before .before .before in
-    let l = add-room (s .args .store .count) (s .args .places) (sym (c .before .before .before .before .before .before .before .either .ensures) ∙ c .before .before .before .before .before .before .if1 .left) in
-    omega (arith, l .0, l .1)
+add-without-plan c = let v = c in
+    let z = v .before .before .before in
+    let s = z .before .before in
+    let wide : length (s .args .sites) ≡ 512 = search needs in
+    let zero = subst (Zero (s .args .store) (s .args .sites) (s .args .places)) (z .if1 .left) (z .before .row-zero .ensures) in
+    let row = subst (AddRow (s .args .store) (s .args .sites) (s .args .places) (s .args .x)) (v .enum-told .given .1) (v .before .before .add-row .ensures) in
+    omega (arith, add-room (s .args .store) (s .args .sites) (s .args .places) wide zero (s .args .x) row .0)
 
 without-plan-requires : tie.Need-without-plan-requires
 without-plan-requires c κs = search needs
 
-returns-4 : tie.Need-returns-4
-returns-4 c = λ e input buffer.
-    let s = c .before .before .before .before .before .before .before .before .before in
-    let l = add-room (s .args .store .count) (s .args .places) (sym (c .before .before .before .before .before .before .before .before .either .ensures) ∙ c .before .before .before .before .before .before .before .if1 .left) in
-    add-made e (s .args .store) (s .args .sites) (s .args .places) input buffer _ (s .pre e) (s .args .x) (sym (c .before .before .before .before .before .before .before .before .either .ensures) ∙ c .before .before .before .before .before .before .before .if1 .left) (sym (c .before .before .before .before .either2 .ensures) ∙ c .before .before .before .if2 .left) (c .before .if3 .left) (l .0) (l .1) (c .without-plan .ensures)
+returns-3 : tie.Need-returns-3
+returns-3 c = λ e input buffer.
+    let v = c .before in
+    let z = v .before .before .before in
+    let s = z .before .before in
+    let wide : length (s .args .sites) ≡ 512 = search needs in
+    let zero = subst (Zero (s .args .store) (s .args .sites) (s .args .places)) (z .if1 .left) (z .before .row-zero .ensures) in
+    let row = subst (AddRow (s .args .store) (s .args .sites) (s .args .places) (s .args .x)) (v .enum-told .given .1) (v .before .before .add-row .ensures) in
+    add-made (s .args .store) (s .args .sites) (s .args .places) e input buffer _ wide zero (s .args .x) row (c .without-plan .ensures)
 
 pub add-spec : {M : Type 1} → statement M
 add-spec =
     tie.close
     (tie.spec
-    either-requires
+    row-zero-requires
     refuse-requires
     returns
-    either-requires-2
+    add-row-requires
+    enum-known-verdict
     refuse-requires-2
     returns-2
-    refuse-requires-3
-    returns-3
+    enum-told
     mul-next
     array-set-from-next
     add-without-plan
     without-plan-requires
-    returns-4)
+    returns-3)

@@ -4,12 +4,12 @@ use mathlib.Core.List.{List}
 use Prim.Native.Nat.{ℕ}
 use Rattle.density.specs.declared.Site.{Site}
 use Rattle.records.specs.declared.ListArray.{ListArray}
-use Rattle.store.specs.declared.Answer.the-variants as of
-use Rattle.store.specs.State.{bare}
 use Rattle.records.specs.declared.ListRead.{ListRead}
 use Rattle.records.specs.Format.{readList}
 use Rattle.records.proofs.Answers.{list-counted, list-refused}
-use Rattle.serve.proofs.ServeCalls.{load-refused, load-read}
+use Rattle.store.specs.declared.Answer.the-variants as of
+use Rattle.store.specs.State.{bare}
+use Rattle.serve.proofs.ServeRules.{load-refused, load-read}
 use borrow.Author.Needs.{needs}
 use Rattle.serve.proofs.load.Statement.{statement}
 use Rattle.serve.proofs.load.Tie as tie
@@ -31,19 +31,25 @@ refuse-requires c κs = search needs
 
 returns : tie.Need-returns
 returns c = λ buffer.
-    let s = c .before .before .before .before .before .before .before .before in
+    let v = c .before .before .before in
+    let a = v .before in
+    let x = a .before .before in
+    let s = x .before .before in
     let o = readList (s .args .e) (s .args .places) (s .args .input .now) in
-    let l = list-counted o (sym (c .before .before .before .before .answer .given .1) ∙ ap (λ (x : ListRead). x .answer) (c .before .before .before .before .before .before .read .ensures)) in
-    load-read (s .args .e) (s .args .store) (s .args .sites) (s .args .places) (s .args .input .now) buffer _ (l .0) (l .1)
+    let l = list-counted o (sym (a .answer .given .1) ∙ ap (λ (x : ListRead). x .answer) (x .read .ensures)) in
+    load-read (s .args .store) (s .args .sites) (s .args .places) (s .args .e) (s .args .input .now) buffer _ (l .0) (l .1)
     (c .without-plan .ensures
     ∙ ap₂ (λ (n : ℕ) (xs : List Site). record { answer = of.Done; store = bare n; sites = xs; n = n }) (sym (l .2))
-    (ap (λ (x : ListRead). x .list .sites) (c .before .before .before .before .before .before .read .ensures) ∙ ap (λ (y : ListArray). y .sites) (l .3)))
+    (ap (λ (x : ListRead). x .list .sites) (x .read .ensures) ∙ ap (λ (y : ListArray). y .sites) (l .3)))
 
 returns-2 : tie.Need-returns-2
 returns-2 c = λ buffer.
-    let s = c .before .before .before .before .before .before in
+    let a = c .before .before in
+    let x = a .before .before in
+    let s = x .before .before in
     let o = readList (s .args .e) (s .args .places) (s .args .input .now) in
-    load-refused (s .args .e) (s .args .store) (s .args .sites) (s .args .places) (s .args .input .now) buffer _ _ (list-refused o (sym (c .before .before .answer2 .given .1) ∙ ap (λ (x : ListRead). x .answer) (c .before .before .before .before .read .ensures))) (c .refuse .ensures)
+    load-refused (s .args .store) (s .args .sites) (s .args .places) (s .args .e) (s .args .input .now) buffer _ _
+    (list-refused o (sym (a .answer2 .given .1) ∙ ap (λ (x : ListRead). x .answer) (x .read .ensures))) (c .refuse .ensures)
 
 pub load-spec : {M : Type 1} → statement M
 load-spec =

@@ -4,6 +4,7 @@ use Prim.Native.Nat.{_-_, _≤_, _<_}
 use native.Mathlib.Omega.{arith}
 use lib.ListN.{length, length-map}
 use Rattle.sets.specs.Set.{setOf}
+use Rattle.tables.specs.Tables.{lentPlan}
 use Rattle.tables.proofs.Sites.{site-small, named, named-start, named-more, named-end}
 use Rattle.tables.proofs.Pass.{Pass, pass-start, table-fits, no-group, broken-here, pass-more, pass-end, pass-broken}
 use borrow.Author.Needs.{needs}
@@ -11,48 +12,61 @@ use Rattle.verify.proofs.add_up.Statement.{statement}
 use Rattle.verify.proofs.add_up.Tie as tie
 
 abbrev Inv-loop : tie.InvT-loop
-Inv-loop plan shares places sizes wholes₀ list set₀ litres₀ i₀ wholes set litres i =
-    (i ≤ list .count) × (set ≡ setOf (named (list .sites) i) 64) × Pass list plan places litres wholes i
+Inv-loop count sets shares places sizes wholes₀ list set₀ litres₀ i₀ wholes set litres i =
+    (i ≤ list .count) × (set ≡ setOf (named (list .sites) i) 64) × Pass list (lentPlan count sets shares) places litres wholes i
 
 abbrev μ-loop : tie.MeasureT-loop
-μ-loop plan shares places sizes wholes₀ list set₀ litres₀ i₀ wholes set litres i = list .count - i
+μ-loop count sets shares places sizes wholes₀ list set₀ litres₀ i₀ wholes set litres i = list .count - i
+
+wide : (s : tie.Start Inv-loop μ-loop) → length (s .args .t1 .sites) ≡ 512
+wide s = simp length-map at (s .good .0 .1 .1 .1 .0 .1 .0 .1)
 
 loop-holds : tie.Need-loop-holds Inv-loop μ-loop
-loop-holds c = (search needs, named-start (c .before .before .before .before .args .t1 .sites), pass-start _ _ _ _ (c .before .before .before .before .pre .3))
+loop-holds c =
+    let s = c .before .before .before .before .before in
+    (search needs, named-start (s .args .t1 .sites), pass-start _ _ _ _ (s .pre .3))
 
 mul-s : tie.Need-mul-s Inv-loop μ-loop
-mul-s c = omega (arith, c .before .before .before .before .before .before .pre .0 .sites)
+mul-s c =
+    let s = c .before .before .before .before .before .before .before in
+    omega (arith, s .pre .0 .sites)
 
 element-copy-out-s : tie.Need-element-copy-out-s Inv-loop μ-loop
-element-copy-out-s c = omega (arith, c .before .before .before .before .before .before .pre .0 .sites)
+element-copy-out-s c =
+    let s = c .before .before .before .before .before .before .before in
+    omega (arith, s .pre .0 .sites)
 
 mul-share : tie.Need-mul-share Inv-loop μ-loop
-mul-share c = omega (arith, c .before .before .before .before .before .before .before .pre .0 .sites, c .before .before .before .before .before .before .before .pre .2 .1)
+mul-share c =
+    let s = c .before .before .before .before .before .before .before .before in
+    omega (arith, s .pre .0 .sites, s .pre .2)
 
 shared-slice-read-share : tie.Need-shared-slice-read-share Inv-loop μ-loop
-shared-slice-read-share c = omega (arith, c .before .before .before .before .before .before .before .before .pre .0 .sites, c .before .before .before .before .before .before .before .before .pre .2 .1)
+shared-slice-read-share c =
+    let s = c .before .before .before .before .before .before .before .before .before in
+    omega (arith, s .pre .0 .sites, s .pre .2)
 
 cast-a : tie.Need-cast-a Inv-loop μ-loop
 cast-a c = search needs
 
 shared-slice-read-a : tie.Need-shared-slice-read-a Inv-loop μ-loop
 shared-slice-read-a c =
-    let s = c .before .before .before .before .before .before .before .before .before .before in
+    let s = c .before .before .before .before .before .before .before .before .before .before .before in
+    let l = c .before .before .before .before .before .loop in
+    let here = c .before .before .before .before .loop-test .taken in
     let list = s .args .t1 in
-    let wide : length (list .sites) ≡ 512 = simp length-map at (s .good .0 .1 .1 .1 .0 .1 .0 .1) in
-    let d = site-small list wide (s .pre .0 .sites) (s .pre .0 .range) (c .before .before .before .before .before .loop .i) (c .before .before .before .before .loop-test .taken) in
-    omega (arith, d .0, s .pre .1 .length-places)
+    omega (arith, site-small list (wide s) (s .pre .0 .sites) (s .pre .0 .range) (l .i) here .0, s .pre .1 .length-places)
 
 cast-b : tie.Need-cast-b Inv-loop μ-loop
 cast-b c = search needs
 
 shared-slice-read-b : tie.Need-shared-slice-read-b Inv-loop μ-loop
 shared-slice-read-b c =
-    let s = c .before .before .before .before .before .before .before .before .before .before .before .before in
+    let s = c .before .before .before .before .before .before .before .before .before .before .before .before .before in
+    let l = c .before .before .before .before .before .before .before .loop in
+    let here = c .before .before .before .before .before .before .loop-test .taken in
     let list = s .args .t1 in
-    let wide : length (list .sites) ≡ 512 = simp length-map at (s .good .0 .1 .1 .1 .0 .1 .0 .1) in
-    let d = site-small list wide (s .pre .0 .sites) (s .pre .0 .range) (c .before .before .before .before .before .before .before .loop .i) (c .before .before .before .before .before .before .loop-test .taken) in
-    omega (arith, d .1, s .pre .1 .length-places)
+    omega (arith, site-small list (wide s) (s .pre .0 .sites) (s .pre .0 .range) (l .i) here .1, s .pre .1 .length-places)
 
 later-requires : tie.Need-later-requires Inv-loop μ-loop
 later-requires c κs = search needs
@@ -61,75 +75,131 @@ cast-k : tie.Need-cast-k Inv-loop μ-loop
 cast-k c = search needs
 
 listed-requires : tie.Need-listed-requires Inv-loop μ-loop
-listed-requires c κs = (c .before .before .before .before .before .before .before .before .before .before .before .before .before .before .before .pre .0 .sites, c .before .before .before .before .before .before .before .before .before .before .before .before .before .before .before .pre .0 .range)
+listed-requires c κs =
+    let s = c .before .before .before .before .before .before .before .before .before .before .before .before .before .before .before in
+    (s .pre .0 .sites, s .pre .0 .range)
 
 same-length : tie.Need-same-length Inv-loop μ-loop
-same-length c = omega (arith, c .before .before .before .before .before .before .before .before .before .before .before .loop .inv .2 .wide, c .before .before .before .before .before .before .before .before .before .before .before .before .before .before .before .before .pre .3)
+same-length c =
+    let s = c .before .before .before .before .before .before .before .before .before .before .before .before .before .before .before .before in
+    let h = c .before .before .before .before .before .before .before .before .before .before .loop .inv .2 in
+    omega (arith, h .wide, s .pre .3)
 
 returns : tie.Need-returns Inv-loop μ-loop
 returns c =
     let s = c .before .before .before .before .before .before .before .before .before .before .before .before .before .before .before .before in
-    (c .listed .ensures, pass-broken _ _ _ _ _ refl (λ r. absurd (no-group _ _ _ _ _ (s .pre .2 .0) (s .pre .1) (c .before .before .before .before .before .before .before .before .before .before .before .loop .i) (c .before .before .before .before .before .before .before .before .before .before .loop-test .taken) _ (c .before .before .before .later .ensures) (c .before .if1 .taken) r)))
+    let l = c .before .before .before .before .before .before .before .before .before .before .loop in
+    let here = c .before .before .before .before .before .before .before .before .before .loop-test .taken in
+    (c .listed .ensures, pass-broken _ _ _ _ _ refl (λ r. absurd (no-group _ _ _ _ (s .pre .1) (l .i) here _ (c .before .before .later .ensures) (c .before .if1 .taken) r)))
 
 litres-of-requires : tie.Need-litres-of-requires Inv-loop μ-loop
 litres-of-requires c κs = search needs
 
 mul-all : tie.Need-mul-all Inv-loop μ-loop
-mul-all c = omega (arith, c .before .if1 .left, c .before .before .before .before .before .before .before .before .before .before .before .before .before .before .before .before .pre .0 .groups)
+mul-all c =
+    let s = c .before .before .before .before .before .before .before .before .before .before .before .before .before .before .before .before in
+    let g = c .before .if1 .left in
+    omega (arith, g, s .pre .0 .groups)
 
 shared-slice-read-all : tie.Need-shared-slice-read-all Inv-loop μ-loop
-shared-slice-read-all c = omega (arith, c .before .before .if1 .left, c .before .before .before .before .before .before .before .before .before .before .before .before .before .before .before .before .before .pre .0 .groups, c .before .before .before .before .before .before .before .before .before .before .before .before .before .before .before .before .before .pre .1 .length-sizes)
+shared-slice-read-all c =
+    let s = c .before .before .before .before .before .before .before .before .before .before .before .before .before .before .before .before .before in
+    let g = c .before .before .if1 .left in
+    omega (arith, g, s .pre .0 .groups, s .pre .1 .length-sizes)
 
 mul-all-2 : tie.Need-mul-all-2 Inv-loop μ-loop
-mul-all-2 c = omega (arith, table-fits _ _ _ _ (c .before .before .before .before .before .before .before .before .before .before .before .before .before .before .before .before .before .pre .1) (c .before .before .before .before .later .result) (c .before .litres-of .result) (c .before .before .if1 .left) (c .before .litres-of .ensures .1))
+mul-all-2 c =
+    let s = c .before .before .before .before .before .before .before .before .before .before .before .before .before .before .before .before .before in
+    let k = c .before .before .before .later in
+    let w = c .before .litres-of in
+    let g = c .before .before .if1 .left in
+    omega (arith, table-fits _ _ _ _ (s .pre .1) (k .result) (w .result) g (w .ensures .1))
 
 is-broken-requires : tie.Need-is-broken-requires Inv-loop μ-loop
 is-broken-requires c κs = search needs
 
 listed-requires-2 : tie.Need-listed-requires-2 Inv-loop μ-loop
-listed-requires-2 c κs = (c .before .before .before .before .before .before .before .before .before .before .before .before .before .before .before .before .before .before .before .pre .0 .sites, c .before .before .before .before .before .before .before .before .before .before .before .before .before .before .before .before .before .before .before .pre .0 .range)
+listed-requires-2 c κs =
+    let s = c .before .before .before .before .before .before .before .before .before .before .before .before .before .before .before .before .before .before .before in
+    (s .pre .0 .sites, s .pre .0 .range)
 
 same-length-2 : tie.Need-same-length-2 Inv-loop μ-loop
-same-length-2 c = omega (arith, c .before .before .before .before .before .before .before .before .before .before .before .before .before .before .before .loop .inv .2 .wide, c .before .before .before .before .before .before .before .before .before .before .before .before .before .before .before .before .before .before .before .before .pre .3)
+same-length-2 c =
+    let s = c .before .before .before .before .before .before .before .before .before .before .before .before .before .before .before .before .before .before .before .before in
+    let h = c .before .before .before .before .before .before .before .before .before .before .before .before .before .before .loop .inv .2 in
+    omega (arith, h .wide, s .pre .3)
 
 returns-2 : tie.Need-returns-2 Inv-loop μ-loop
 returns-2 c =
     let s = c .before .before .before .before .before .before .before .before .before .before .before .before .before .before .before .before .before .before .before .before in
-    (c .listed2 .ensures, pass-broken _ _ _ _ _ refl (broken-here _ _ _ _ _ (s .pre .2 .0) (s .pre .1) (c .before .before .before .before .before .before .before .before .before .before .before .before .before .before .before .loop .i) (c .before .before .before .before .before .before .before .before .before .before .before .before .before .before .loop-test .taken) (c .before .before .before .before .before .before .before .later .result) (c .before .before .before .before .before .before .before .later .ensures) (c .before .before .before .before .litres-of .result) (c .before .before .before .before .litres-of .ensures) _ (c .before .before .is-broken .ensures) (c .before .if2 .taken)))
+    let l = c .before .before .before .before .before .before .before .before .before .before .before .before .before .before .loop in
+    let here = c .before .before .before .before .before .before .before .before .before .before .before .before .before .loop-test .taken in
+    let k = c .before .before .before .before .before .before .later in
+    let w = c .before .before .before .before .litres-of in
+    (c .listed2 .ensures, pass-broken _ _ _ _ _ refl (broken-here _ _ _ _ (s .pre .1) (l .i) here (k .result) (k .ensures) (w .result) (w .ensures) _ (c .before .before .is-broken .ensures) (c .before .if2 .taken)))
 
 name-requires : tie.Need-name-requires Inv-loop μ-loop
 name-requires c κs =
     let s = c .before .before .before .before .before .before .before .before .before .before .before .before .before .before .before .before .before .before .before in
+    let l = c .before .before .before .before .before .before .before .before .before .before .before .before .before .loop in
+    let here = c .before .before .before .before .before .before .before .before .before .before .before .before .loop-test .taken in
     let list = s .args .t1 in
-    let wide : length (list .sites) ≡ 512 = simp length-map at (s .good .0 .1 .1 .1 .0 .1 .0 .1) in
-    let d = site-small list wide (s .pre .0 .sites) (s .pre .0 .range) (c .before .before .before .before .before .before .before .before .before .before .before .before .before .before .loop .i) (c .before .before .before .before .before .before .before .before .before .before .before .before .before .loop-test .taken) in
-    d
+    site-small list (wide s) (s .pre .0 .sites) (s .pre .0 .range) (l .i) here
 
 mul-litres : tie.Need-mul-litres Inv-loop μ-loop
-mul-litres c = omega (arith, c .before .before .before .before .before .if1 .left, c .before .before .before .before .before .before .before .before .before .before .before .before .before .before .before .before .before .before .before .before .pre .0 .groups, c .before .before .before .before .before .before .before .before .before .before .before .before .before .before .before .loop .inv .2 .litres-is .wide)
+mul-litres c =
+    let s = c .before .before .before .before .before .before .before .before .before .before .before .before .before .before .before .before .before .before .before .before in
+    let h = c .before .before .before .before .before .before .before .before .before .before .before .before .before .before .loop .inv .2 in
+    let g = c .before .before .before .before .before .if1 .left in
+    omega (arith, g, s .pre .0 .groups, h .litres-is .wide)
 
 array-read-litres : tie.Need-array-read-litres Inv-loop μ-loop
-array-read-litres c = omega (arith, c .before .before .before .before .before .if1 .left, c .before .before .before .before .before .before .before .before .before .before .before .before .before .before .before .before .before .before .before .before .pre .0 .groups, c .before .before .before .before .before .before .before .before .before .before .before .before .before .before .before .loop .inv .2 .litres-is .wide)
+array-read-litres c =
+    let s = c .before .before .before .before .before .before .before .before .before .before .before .before .before .before .before .before .before .before .before .before in
+    let h = c .before .before .before .before .before .before .before .before .before .before .before .before .before .before .loop .inv .2 in
+    let g = c .before .before .before .before .before .if1 .left in
+    omega (arith, g, s .pre .0 .groups, h .litres-is .wide)
 
 add-litres : tie.Need-add-litres Inv-loop μ-loop
 add-litres c =
-    let k : c .before .before .before .before .before .before .before .later .result < 64 = omega (arith, c .before .before .before .before .before .if1 .left, c .before .before .before .before .before .before .before .before .before .before .before .before .before .before .before .before .before .before .before .before .pre .0 .groups) in
-    omega (arith, c .before .before .before .before .before .before .before .before .before .before .before .before .before .before .before .loop .inv .2 .litres-is .low _ k, c .before .before .before .before .litres-of .ensures .1, c .before .before .before .before .before .before .before .before .before .before .before .before .before .before .before .before .before .before .before .before .pre .0 .sites)
+    let s = c .before .before .before .before .before .before .before .before .before .before .before .before .before .before .before .before .before .before .before .before in
+    let h = c .before .before .before .before .before .before .before .before .before .before .before .before .before .before .loop .inv .2 in
+    let k = c .before .before .before .before .before .before .later in
+    let w = c .before .before .before .before .litres-of in
+    let g = c .before .before .before .before .before .if1 .left in
+    let m : k .result < 64 = omega (arith, g, s .pre .0 .groups) in
+    omega (arith, h .litres-is .low _ m, w .ensures .1, s .pre .0 .sites)
 
 mul-litres-2 : tie.Need-mul-litres-2 Inv-loop μ-loop
-mul-litres-2 c = omega (arith, c .before .before .before .before .before .if1 .left, c .before .before .before .before .before .before .before .before .before .before .before .before .before .before .before .before .before .before .before .before .pre .0 .groups, c .before .before .before .before .before .before .before .before .before .before .before .before .before .before .before .loop .inv .2 .litres-is .wide)
+mul-litres-2 c =
+    let s = c .before .before .before .before .before .before .before .before .before .before .before .before .before .before .before .before .before .before .before .before in
+    let h = c .before .before .before .before .before .before .before .before .before .before .before .before .before .before .loop .inv .2 in
+    let g = c .before .before .before .before .before .if1 .left in
+    omega (arith, g, s .pre .0 .groups, h .litres-is .wide)
 
 array-write-litres : tie.Need-array-write-litres Inv-loop μ-loop
-array-write-litres c = omega (arith, c .before .before .before .before .before .if1 .left, c .before .before .before .before .before .before .before .before .before .before .before .before .before .before .before .before .before .before .before .before .pre .0 .groups, c .before .before .before .before .before .before .before .before .before .before .before .before .before .before .before .loop .inv .2 .litres-is .wide)
+array-write-litres c =
+    let s = c .before .before .before .before .before .before .before .before .before .before .before .before .before .before .before .before .before .before .before .before in
+    let h = c .before .before .before .before .before .before .before .before .before .before .before .before .before .before .loop .inv .2 in
+    let g = c .before .before .before .before .before .if1 .left in
+    omega (arith, g, s .pre .0 .groups, h .litres-is .wide)
 
 mul-wholes : tie.Need-mul-wholes Inv-loop μ-loop
-mul-wholes c = omega (arith, c .before .before .before .before .before .before .before .before .before .before .before .before .before .before .before .before .before .before .before .before .pre .0 .sites, c .before .before .before .before .before .before .before .before .before .before .before .before .before .before .before .loop .inv .2 .wide)
+mul-wholes c =
+    let s = c .before .before .before .before .before .before .before .before .before .before .before .before .before .before .before .before .before .before .before .before in
+    let h = c .before .before .before .before .before .before .before .before .before .before .before .before .before .before .loop .inv .2 in
+    omega (arith, s .pre .0 .sites, h .wide)
 
 slice-write-wholes : tie.Need-slice-write-wholes Inv-loop μ-loop
-slice-write-wholes c = omega (arith, c .before .before .before .before .before .before .before .before .before .before .before .before .before .before .before .before .before .before .before .before .pre .0 .sites, c .before .before .before .before .before .before .before .before .before .before .before .before .before .before .before .loop .inv .2 .wide)
+slice-write-wholes c =
+    let s = c .before .before .before .before .before .before .before .before .before .before .before .before .before .before .before .before .before .before .before .before in
+    let h = c .before .before .before .before .before .before .before .before .before .before .before .before .before .before .loop .inv .2 in
+    omega (arith, s .pre .0 .sites, h .wide)
 
 add-i : tie.Need-add-i Inv-loop μ-loop
-add-i c = omega (arith, c .before .before .before .before .before .before .before .before .before .before .before .before .before .before .before .before .before .before .before .before .pre .0 .sites)
+add-i c =
+    let s = c .before .before .before .before .before .before .before .before .before .before .before .before .before .before .before .before .before .before .before .before in
+    omega (arith, s .pre .0 .sites)
 
 loop-less : tie.Need-loop-less Inv-loop μ-loop
 loop-less c = search needs
@@ -137,25 +207,31 @@ loop-less c = search needs
 loop-again : tie.Need-loop-again Inv-loop μ-loop
 loop-again c =
     let s = c .before .before .before .before .before .before .before .before .before .before .before .before .before .before .before .before .before .before .before .before in
-    let list = s .args .t1 in
-    let h = c .before .before .before .before .before .before .before .before .before .before .before .before .before .before .before .loop .inv in (
+    let l = c .before .before .before .before .before .before .before .before .before .before .before .before .before .before .loop in
+    let here = c .before .before .before .before .before .before .before .before .before .before .before .before .before .loop-test .taken in
+    let k = c .before .before .before .before .before .before .later in
+    let w = c .before .before .before .before .litres-of in
+    let g = c .before .before .before .before .before .if1 .left in
+    let list = s .args .t1 in (
       search needs,
-      c .name .ensures ∙ named-more (list .sites) (c .before .before .before .before .before .before .before .before .before .before .before .before .before .before .before .loop .i) _ (h .1),
-      pass-more list (s .args .plan) (s .args .shares .now) (s .args .places .now) (s .args .sizes .now) (s .pre .2 .0) (s .pre .1) (c .before .before .before .before .before .before .before .before .before .before .before .before .before .before .before .loop .i) (c .before .before .before .before .before .before .before .before .before .before .before .before .before .before .loop-test .taken) (c .before .before .before .before .before .before .before .later .result) (c .before .before .before .before .before .before .before .later .ensures) (c .before .before .before .before .litres-of .result) (c .before .before .before .before .litres-of .ensures) _ (c .before .before .is-broken .ensures)
-          _ _ _ _ (h .2) (c .before .if2 .left) (omega (arith, c .before .before .before .before .before .if1 .left, s .pre .0 .groups)) (s .pre .0 .sites) refl refl,
+      c .name .ensures ∙ named-more (list .sites) (l .i) _ (l .inv .1),
+      pass-more list (lentPlan (s .args .count) (s .args .sets .now) (s .args .shares .now)) (s .args .places .now) (s .args .sizes .now) (s .pre .1) (l .i) here (k .result) (k .ensures) (w .result) (w .ensures) _ (c .before .before .is-broken .ensures)
+          _ _ _ _ (l .inv .2) (c .before .if2 .left) (omega (arith, g, s .pre .0 .groups)) (s .pre .0 .sites) refl refl,
     )
 
 same-length-3 : tie.Need-same-length-3 Inv-loop μ-loop
-same-length-3 c = omega (arith, c .before .loop .inv .2 .wide, c .before .before .before .before .before .before .pre .3)
+same-length-3 c =
+    let s = c .before .before .before .before .before .before .before in
+    let h = c .before .loop .inv .2 in
+    omega (arith, h .wide, s .pre .3)
 
 returns-3 : tie.Need-returns-3 Inv-loop μ-loop
 returns-3 c =
-    let s = c .before .before .before .before .before .before in
-    let list = s .args .t1 in
-    let wide : length (list .sites) ≡ 512 = simp length-map at (s .good .0 .1 .1 .1 .0 .1 .0 .1) in
-    let h = c .before .loop .inv in (
-      h .1 ∙ named-end list wide (s .pre .0 .sites) (c .before .loop .i) (omega arith),
-      pass-end list (s .args .plan) (s .args .places .now) (s .args .sizes .now) (s .pre .1) _ _ (c .before .loop .i) (omega arith) (h .2) _ refl refl,
+    let s = c .before .before .before .before .before .before .before in
+    let l = c .before .loop in
+    let list = s .args .t1 in (
+      l .inv .1 ∙ named-end list (wide s) (s .pre .0 .sites) (l .i) (omega arith),
+      pass-end list (lentPlan (s .args .count) (s .args .sets .now) (s .args .shares .now)) (s .args .places .now) (s .args .sizes .now) (s .pre .1) _ _ (l .i) (omega arith) (l .inv .2) _ refl refl,
     )
 
 pub add-up-spec : {M : Type 1} → statement M

@@ -2,14 +2,43 @@
 use mathlib.Core.Path.{_≡_, refl, sym, _∙_}
 use Prim.Native.Nat.{ℕ}
 use native.Mathlib.Omega.{arith}
-use lib.ListN.{length, getD-replicate}
+use lib.ListN.{length, take, getD-replicate}
 use borrow.Author.Needs.{needs}
-use Rattle.tables.specs.Tables.{net, groupsIn}
+use Rattle.density.specs.Rows.{firstRow, planRows, loadsUneven, groupsRise}
+use Rattle.tables.specs.declared.Verdict.the-variants.{Passes}
+use Rattle.tables.specs.Verdict.{verdict}
+use Rattle.tables.specs.Tables.{net, groupsIn, sharesIn}
 use Rattle.tables.proofs.Verdicts.{form-refused, row-15, row-16, plan-passes, small, kept-parts, kept-levels}
 use Rattle.tables.proofs.Shares.{groups-count}
 use Rattle.tables.proofs.Totals.{listed-place}
 use Rattle.verify.proofs.plan_row.Statement.{statement}
 use Rattle.verify.proofs.plan_row.Tie as tie
+
+many : (s : tie.Start) → length (s .args .plan .shares) ≡ 512
+many s = search needs
+
+-- rows 12 to 14 do not refuse the plan
+form : (p : tie.After-enum-told) → let s = p .before .before .before .before .before .before .before .before .before in verdict (firstRow (take 3 (planRows (net (s .args .list)) (groupsIn (s .args .list) (s .args .plan)) (sharesIn (s .args .list) (s .args .plan))))) ≡ Passes
+form p = sym (p .before .before .before .try-form .ensures .verdict-is) ∙ p .enum-told .given .1
+
+-- row 15 is asked
+uneven : (p : tie.After-loads-uneven) → let s = p .before .before .before .before .before .before .before .before .before .before .before .before .before .before .before .before .before .before .before in p .loads-uneven .result ≡ loadsUneven (net (s .args .list)) (groupsIn (s .args .list) (s .args .plan)) (sharesIn (s .args .list) (s .args .plan))
+uneven p =
+    let s = p .before .before .before .before .before .before .before .before .before .before .before .before .before .before .before .before .before .before .before in
+    let f = p .before .before .before .before .before .before .before .before .before .before .before .before .before .try-form in
+    let told = p .before .before .before .before .before .before .before .before .before .before .enum-told .given .1 in
+    let w = p .before .before .before .before .loads in
+    p .loads-uneven .ensures (s .args .list) (s .args .plan) (kept-levels {plan = s .args .plan} (f .ensures .passed told) (many s) (w .result) (w .ensures))
+
+-- row 16 is asked
+rises : (p : tie.After-groups-rise) → let s = p .before .before .before .before .before .before .before .before .before .before .before .before .before .before .before .before .before .before .before .before .before .before .before in p .groups-rise .result ≡ groupsRise (net (s .args .list)) (groupsIn (s .args .list) (s .args .plan))
+rises p =
+    let s = p .before .before .before .before .before .before .before .before .before .before .before .before .before .before .before .before .before .before .before .before .before .before .before in
+    let f = p .before .before .before .before .before .before .before .before .before .before .before .before .before .before .before .before .before .try-form in
+    let told = p .before .before .before .before .before .before .before .before .before .before .before .before .before .before .enum-told .given .1 in
+    let k = f .ensures .passed told in
+    let gs = groupsIn (s .args .list) (s .args .plan) in
+    p .groups-rise .ensures (net (s .args .list)) gs (groups-count (s .args .list) (s .args .plan) (k .ready)) (λ i l. k .litres .1 .is gs (k .tables .place) i (omega (arith, s .pre .groups))) (k .tables .size)
 
 slice-aggregate-try-form : tie.Need-slice-aggregate-try-form
 slice-aggregate-try-form c = search needs
@@ -17,17 +46,22 @@ slice-aggregate-try-form c = search needs
 slice-aggregate-try-form-2 : tie.Need-slice-aggregate-try-form-2
 slice-aggregate-try-form-2 c = search needs
 
+slice-aggregate-try-form-3 : tie.Need-slice-aggregate-try-form-3
+slice-aggregate-try-form-3 c = search needs
+
 try-form-requires : tie.Need-try-form-requires
 try-form-requires c κs =
-    let s = c .before .before .before in
-    let many : length (s .args .plan .shares) ≡ 512 = search needs in
-    (s .pre, (refl, many), refl)
+    let s = c .before .before .before .before .before in
+    let deep : length (s .args .plan .groups) ≡ 64 = search needs in
+    (s .pre, deep, many s, refl)
 
 enum-known-verdict : tie.Need-enum-known-verdict
 enum-known-verdict c = search needs
 
 returns : tie.Need-returns
-returns c = sym (form-refused _ _ _ _ (sym (c .before .before .before .before .try-form .ensures .verdict-is) ∙ c .before .verdict .given .1))
+returns c =
+    let f = c .before .before .before .before .try-form in
+    sym (form-refused _ _ _ _ (sym (f .ensures .verdict-is) ∙ c .before .verdict .given .1))
 
 enum-told : tie.Need-enum-told
 enum-told c = search needs
@@ -40,10 +74,11 @@ slice-aggregate-loads-2 c = search needs
 
 loads-requires : tie.Need-loads-requires
 loads-requires c κs =
-    let s = c .before .before .before .before .before .before .before .before .before .before .before .before in
-    let k = c .before .before .before .before .before .before .before .before .try-form .ensures .passed (c .before .before .before .before .before .enum-told .given .1) in
-    let many : length (s .args .plan .shares) ≡ 512 = search needs in
-    (λ d l. omega (arith, getD-replicate {A = ℕ} 64 d 0 0 l), kept-parts k (s .args .plan .shares) (refl, many))
+    let s = c .before .before .before .before .before .before .before .before .before .before .before .before .before .before in
+    let f = c .before .before .before .before .before .before .before .before .try-form in
+    let told = c .before .before .before .before .before .enum-told .given .1 in
+    let k = f .ensures .passed told in
+    (λ d l. omega (arith, getD-replicate {A = ℕ} 64 d 0 0 l), kept-parts {plan = s .args .plan} k (many s))
 
 slice-aggregate-loads-uneven : tie.Need-slice-aggregate-loads-uneven
 slice-aggregate-loads-uneven c = search needs
@@ -56,57 +91,51 @@ slice-aggregate-loads-uneven-3 c = search needs
 
 loads-uneven-requires : tie.Need-loads-uneven-requires
 loads-uneven-requires c κs =
-    let s = c .before .before .before .before .before .before .before .before .before .before .before .before .before .before .before .before in
-    let k = c .before .before .before .before .before .before .before .before .before .before .before .before .try-form .ensures .passed (c .before .before .before .before .before .before .before .before .before .enum-told .given .1) in
+    let s = c .before .before .before .before .before .before .before .before .before .before .before .before .before .before .before .before .before .before in
+    let f = c .before .before .before .before .before .before .before .before .before .before .before .before .try-form in
+    let told = c .before .before .before .before .before .before .before .before .before .enum-told .given .1 in
+    let k = f .ensures .passed told in
     let sums : length (c .before .before .before .loads .result) ≡ 64 = search needs in
-    ((k .tables .length-places, k .litres .0, sums), λ d l h. listed-place (s .args .list) (s .args .plan) (k .ready) (c .before .before .before .before .before .before .before .before .before .before .before .before .try-form .result .places) (k .tables .place) (c .before .before .before .before .before .before .before .before .before .before .before .before .try-form .result .listed) d (k .listed) l h)
+    ((k .tables .length-places, k .litres .0, sums), λ d l h. listed-place (s .args .list) (s .args .plan) (k .ready) (f .result .places) (k .tables .place) (f .result .listed) d (k .listed) l h)
 
 returns-2 : tie.Need-returns-2
 returns-2 c =
-    let s = c .before .before .before .before .before .before .before .before .before .before .before .before .before .before .before .before .before .before in
-    let k = c .before .before .before .before .before .before .before .before .before .before .before .before .before .before .try-form .ensures .passed (c .before .before .before .before .before .before .before .before .before .before .before .enum-told .given .1) in
-    let many : length (s .args .plan .shares) ≡ 512 = search needs in
-    let levels = kept-levels k (s .args .plan .shares) (refl, many) (c .before .before .before .before .before .loads .result) (c .before .before .before .before .before .loads .ensures) in
-    let u = c .before .loads-uneven .ensures (s .args .list) (s .args .plan) levels in
-    row-15 _ _ _ (sym (c .before .before .before .before .before .before .before .before .before .before .before .before .before .before .try-form .ensures .verdict-is) ∙ c .before .before .before .before .before .before .before .before .before .before .before .enum-told .given .1) (sym u ∙ c .if1 .taken)
+    let told = c .before .before .before .before .before .before .before .before .before .before .before in
+    row-15 _ _ _ (form told) (sym (uneven (c .before)) ∙ c .if1 .taken)
 
 slice-aggregate-groups-rise : tie.Need-slice-aggregate-groups-rise
 slice-aggregate-groups-rise c =
-    let k = c .before .before .before .before .before .before .before .before .before .before .before .before .before .before .before .try-form .ensures .passed (c .before .before .before .before .before .before .before .before .before .before .before .before .enum-told .given .1) in
+    let f = c .before .before .before .before .before .before .before .before .before .before .before .before .before .before .before .try-form in
+    let told = c .before .before .before .before .before .before .before .before .before .before .before .before .enum-told .given .1 in
+    let k = f .ensures .passed told in
     search (needs, k .litres .0)
 
 slice-aggregate-groups-rise-2 : tie.Need-slice-aggregate-groups-rise-2
 slice-aggregate-groups-rise-2 c =
-    let k = c .before .before .before .before .before .before .before .before .before .before .before .before .before .before .before .before .try-form .ensures .passed (c .before .before .before .before .before .before .before .before .before .before .before .before .before .enum-told .given .1) in
+    let f = c .before .before .before .before .before .before .before .before .before .before .before .before .before .before .before .before .try-form in
+    let told = c .before .before .before .before .before .before .before .before .before .before .before .before .before .enum-told .given .1 in
+    let k = f .ensures .passed told in
     search (needs, k .tables .length-sizes)
 
 groups-rise-requires : tie.Need-groups-rise-requires
 groups-rise-requires c κs =
-    let s = c .before .before .before .before .before .before .before .before .before .before .before .before .before .before .before .before .before .before .before .before in
-    let k = c .before .before .before .before .before .before .before .before .before .before .before .before .before .before .before .before .try-form .ensures .passed (c .before .before .before .before .before .before .before .before .before .before .before .before .before .enum-told .given .1) in
+    let s = c .before .before .before .before .before .before .before .before .before .before .before .before .before .before .before .before .before .before .before .before .before .before in
+    let f = c .before .before .before .before .before .before .before .before .before .before .before .before .before .before .before .before .try-form in
+    let told = c .before .before .before .before .before .before .before .before .before .before .before .before .before .enum-told .given .1 in
+    let k = f .ensures .passed told in
     small (s .args .list) (s .args .plan) (k .ready) _ _ _ (k .tables) (k .litres .1) (k .litres .0)
 
 returns-3 : tie.Need-returns-3
 returns-3 c =
-    let s = c .before .before .before .before .before .before .before .before .before .before .before .before .before .before .before .before .before .before .before .before .before .before in
-    let k = c .before .before .before .before .before .before .before .before .before .before .before .before .before .before .before .before .before .before .try-form .ensures .passed (c .before .before .before .before .before .before .before .before .before .before .before .before .before .before .before .enum-told .given .1) in
-    let many : length (s .args .plan .shares) ≡ 512 = search needs in
-    let levels = kept-levels k (s .args .plan .shares) (refl, many) (c .before .before .before .before .before .before .before .before .before .loads .result) (c .before .before .before .before .before .before .before .before .before .loads .ensures) in
-    let u = c .before .before .before .before .before .loads-uneven .ensures (s .args .list) (s .args .plan) levels in
-    let e = groups-count (s .args .list) (s .args .plan) (k .ready) in
-    let is = c .before .groups-rise .ensures (net (s .args .list)) (groupsIn (s .args .list) (s .args .plan)) e (λ i l. k .litres .1 .is _ (k .tables .place) i (omega (arith, s .pre .groups))) (k .tables .size) in
-    row-16 _ _ _ (sym (c .before .before .before .before .before .before .before .before .before .before .before .before .before .before .before .before .before .before .try-form .ensures .verdict-is) ∙ c .before .before .before .before .before .before .before .before .before .before .before .before .before .before .before .enum-told .given .1) (sym u ∙ c .before .before .before .before .if1 .left) (sym is ∙ c .if2 .taken)
+    let told = c .before .before .before .before .before .before .before .before .before .before .before .before .before .before .before in
+    let tried = c .before .before .before .before in
+    row-16 _ _ _ (form told) (sym (uneven (tried .before)) ∙ tried .if1 .left) (sym (rises (c .before)) ∙ c .if2 .taken)
 
 returns-4 : tie.Need-returns-4
 returns-4 c =
-    let s = c .before .before .before .before .before .before .before .before .before .before .before .before .before .before .before .before .before .before .before .before .before .before in
-    let k = c .before .before .before .before .before .before .before .before .before .before .before .before .before .before .before .before .before .before .try-form .ensures .passed (c .before .before .before .before .before .before .before .before .before .before .before .before .before .before .before .enum-told .given .1) in
-    let many : length (s .args .plan .shares) ≡ 512 = search needs in
-    let levels = kept-levels k (s .args .plan .shares) (refl, many) (c .before .before .before .before .before .before .before .before .before .loads .result) (c .before .before .before .before .before .before .before .before .before .loads .ensures) in
-    let u = c .before .before .before .before .before .loads-uneven .ensures (s .args .list) (s .args .plan) levels in
-    let e = groups-count (s .args .list) (s .args .plan) (k .ready) in
-    let is = c .before .groups-rise .ensures (net (s .args .list)) (groupsIn (s .args .list) (s .args .plan)) e (λ i l. k .litres .1 .is _ (k .tables .place) i (omega (arith, s .pre .groups))) (k .tables .size) in
-    plan-passes _ _ _ (sym (c .before .before .before .before .before .before .before .before .before .before .before .before .before .before .before .before .before .before .try-form .ensures .verdict-is) ∙ c .before .before .before .before .before .before .before .before .before .before .before .before .before .before .before .enum-told .given .1) (sym u ∙ c .before .before .before .before .if1 .left) (sym is ∙ c .if2 .left)
+    let told = c .before .before .before .before .before .before .before .before .before .before .before .before .before .before .before in
+    let tried = c .before .before .before .before in
+    plan-passes _ _ _ (form told) (sym (uneven (tried .before)) ∙ tried .if1 .left) (sym (rises (c .before)) ∙ c .if2 .left)
 
 pub plan-row-spec : {M : Type 1} → statement M
 plan-row-spec =
@@ -114,6 +143,7 @@ plan-row-spec =
     (tie.spec
     slice-aggregate-try-form
     slice-aggregate-try-form-2
+    slice-aggregate-try-form-3
     try-form-requires
     enum-known-verdict
     returns

@@ -1,0 +1,115 @@
+-- A step keeps the widths of an edition: figures read are fields of that width, and those filled in are zero. Assumes nothing.
+use mathlib.Core.Path.{sym, subst}
+use mathlib.Core.List.{List, [], _∷_, _++_, map, append-nil}
+use mathlib.Core.Option.{Option, none, some}
+use Prim.Native.Nat.{ℕ, zero, suc, _+_, _-_, _*_, _<_, _^_}
+use native.Mathlib.Omega.{arith}
+use lib.Dec.{lit<}
+use lib.ListN.{length, getD, drop, set, replicate}
+use Rattle.density.specs.declared.Site.{Site}
+use Rattle.density.specs.Network.{noSite, siteAt}
+use Rattle.records.specs.Bytes.{Bytes}
+use Rattle.records.specs.Record.{records}
+use Rattle.records.specs.Format.{siteSize, siteCount, siteOf, sitesOf, shareSize, groupCount, bodyOf}
+use Rattle.records.proofs.Bytes.{bytes-take, bytes-drop, field-small}
+use Rattle.store.specs.declared.Request.{Request}
+use Rattle.store.specs.declared.Request.the-variants.{Load, Change, Add, Propose, Share, Depot, Difference, Written}
+use Rattle.store.specs.Calls.{Call}
+use Rattle.store.specs.Model.{withLitres}
+use Rattle.store.specs.Widths.{Named, Fits}
+use Rattle.held_state.specs.Held.{State, listOf}
+use Rattle.store.specs.State.{Done, refusal, effectOf, settle, step}
+
+-- ---- a property of what stands at a place
+
+module _ {X : Type 0} (P : X → Type 0) (d : X) where
+  set-at : (l : List X) (j i : ℕ) (x : X) → P x → P (getD l i d) → P (getD (set l j x) i d)
+  set-at [] j i x a b = b
+  set-at (y ∷ l) zero zero x a b = a
+  set-at (y ∷ l) zero (suc i) x a b = b
+  set-at (y ∷ l) (suc j) zero x a b = b
+  set-at (y ∷ l) (suc j) (suc i) x a b = set-at l j i x a b
+
+  over-at : (l t : List X) (i : ℕ) → P (getD l i d) → P (getD t i d) → P (getD (l ++ drop (length l) t) i d)
+  over-at [] t i a b = b
+  over-at (y ∷ l) [] i a b = subst (λ (z : List X). P (getD z i d)) (sym (append-nil (y ∷ l))) a
+  over-at (y ∷ l) (x ∷ t) zero a b = a
+  over-at (y ∷ l) (x ∷ t) (suc i) a b = over-at l t i a b
+
+  pub repeated-at : P d → (n i : ℕ) → P (getD (replicate n d) i d)
+  repeated-at b zero i = b
+  repeated-at b (suc n) zero = b
+  repeated-at b (suc n) (suc i) = repeated-at b n i
+
+  filled-at : P d → (l : List X) (n i : ℕ) → P (getD l i d) → P (getD (l ++ replicate n d) i d)
+  filled-at b [] n i a = repeated-at b n i
+  filled-at b (y ∷ l) n zero a = a
+  filled-at b (y ∷ l) n (suc i) a = filled-at b l n i a
+
+  -- what is read of each record of bytes
+  pub read-at : (f : List ℕ → X) → ((r : List ℕ) → Bytes r → P (f r)) → P d → (size n : ℕ) (s : List ℕ) → Bytes s → (i : ℕ)
+      → P (getD (map f (records size n s)) i d)
+  unfolding records
+  read-at f g b size zero s bytes i = b
+  read-at f g b size (suc n) s bytes zero = g _ (bytes-take size s bytes)
+  read-at f g b size (suc n) s bytes (suc i) = read-at f g b size n (drop size s) (bytes-drop size s bytes) i
+
+pub below : (w : ℕ) → 0 < 256 ^ w
+below w = omega (arith, field-small [] 0 w (λ i. lit< tt))
+
+-- ---- states and calls
+
+module _ (m : ℕ) (s : State) (h : Fits m s) (c : Call) (bytes : Bytes (c .input)) where
+  abbrev Litres : Site → Type 0
+  Litres x = x .litres < 256 ^ s .edition .litres
+
+  abbrev Narrow : ℕ → Type 0
+  Narrow x = x < 256 ^ s .edition .share
+
+  zeros : (i : ℕ) → Narrow (getD (replicate 512 0) i 0)
+  zeros = repeated-at Narrow 0 (below (s .edition .share)) 512
+
+  effect-fits : (q : Request) → Named (256 ^ s .edition .litres) q → Fits m (effectOf s c q .after)
+  effect-fits Load n =
+      let w = s .edition .litres in
+      record {
+        litres = λ i l.
+            over-at Litres noSite (sitesOf (s .edition) (c .input)) (s .table) i
+            (read-at Litres noSite (siteOf w) (λ r b. field-small r 4 w b) (below w) (siteSize (s .edition)) (siteCount (c .input)) (drop 4 (c .input))
+            (bytes-drop 4 (c .input) bytes) i)
+            (h .litres i l);
+        shares = zeros;
+      }
+  effect-fits (Change j w) n =
+      record {
+        litres = λ i l. set-at Litres noSite (s .table) j i (withLitres (siteAt (listOf s) j) w) n (h .litres i l);
+        shares = zeros;
+      }
+  effect-fits (Add f d w) n =
+      record {
+        litres = λ i l. set-at Litres noSite (s .table) (s .store .count) i (record { first = f; second = d; litres = w }) n (h .litres i l);
+        shares = zeros;
+      }
+  effect-fits Propose n =
+      let w = s .edition .share in
+      let at = 5 + 10 * groupCount (c .input) in
+      let read : List ℕ = map (bodyOf w) (records (shareSize (s .edition)) (s .store .count) (drop at (c .input))) in
+      record {
+        litres = h .litres;
+        shares = λ i.
+            filled-at Narrow 0 (below w) read (512 - length read) i
+            (read-at Narrow 0 (bodyOf w) (λ r b. field-small r 2 w b) (below w) (shareSize (s .edition)) (s .store .count) (drop at (c .input))
+            (bytes-drop at (c .input) bytes) i);
+      }
+  effect-fits (Share i) n = h
+  effect-fits (Depot d) n = h
+  effect-fits (Difference a d) n = h
+  effect-fits Written n = h
+
+  settle-fits : (o : Option ℕ) (d : Done) → Fits m (d .after) → Fits m (settle o s c d .after)
+  settle-fits none d f = f
+  settle-fits (some n) d f = h
+
+  -- After a step the widths are kept.
+  pub step-fits : Named (256 ^ s .edition .litres) (c .request) → Fits m (step s c .after)
+  step-fits n = settle-fits (refusal s c) (effectOf s c (c .request)) (effect-fits (c .request) n)

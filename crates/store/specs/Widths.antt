@@ -1,0 +1,28 @@
+-- Document 01, "Entry points", the desk: widths of figures. "Litres in a change or an added site are a 16-bit figure".
+use Prim.Native.Nat.{ℕ, _<_, _≤_, _^_}
+use lib.ListN.{getD}
+use Rattle.density.specs.Network.{noSite}
+use Rattle.records.specs.declared.Edition.{Edition}
+use Rattle.held_state.specs.Held.{State}
+use Rattle.store.specs.declared.Request.{Request}
+use Rattle.store.specs.declared.Request.the-variants.{Load, Change, Add, Propose, Share, Depot, Difference, Written}
+
+-- the litres that a request names are below a bound
+abbrev pub Named : ℕ → Request → Type 0
+Named b Load = Unit {0}
+Named b (Change i w) = w < b
+Named b (Add f d w) = w < b
+Named b Propose = Unit {0}
+Named b (Share i) = Unit {0}
+Named b (Depot d) = Unit {0}
+Named b (Difference a d) = Unit {0}
+Named b Written = Unit {0}
+
+-- litres of at most 32 bits and shares of at most 64, as a site and a plan by value have them
+abbrev pub Fitting : Edition → Type 0
+Fitting e = (e .litres ≤ 4) × (e .share ≤ 8)
+
+-- the litres of the first m places, and all shares, have the widths of the edition
+pub record Fits (m : ℕ) (s : State) : Type 0 where
+  pub litres : (i : ℕ) → i < m → getD (s .table) i noSite .litres < 256 ^ s .edition .litres
+  pub shares : (i : ℕ) → getD (s .store .shares) i 0 < 256 ^ s .edition .share

@@ -1,0 +1,56 @@
+-- The rows of a change and of another site, test by test. Assumes nothing.
+use mathlib.Core.Path.{_≡_, sym}
+use mathlib.Core.Bool.{true, false, _||_}
+use Prim.Native.Nat.{ℕ, _≤_, _<_}
+use borrow.Author.Tests.{le-leb, lt-leb, eq-eqb, ne-eqb}
+use lib.Dec.{leb, ltb}
+use lib.ListN.{length}
+use Rattle.density.specs.declared.Site.{Site}
+use Rattle.density.specs.Rows.{firstRow}
+use Rattle.tables.specs.declared.Verdict.{Verdict}
+use Rattle.tables.specs.declared.Verdict.the-variants.{Passes, Refused}
+use Rattle.tables.specs.Verdict.{verdict}
+use Rattle.store.specs.declared.Request.{Request}
+use Rattle.store.specs.declared.Request.the-variants.{Change, Add}
+use Rattle.store.specs.Calls.{Call}
+use Rattle.store.specs.Model.{Model, rowsOf}
+
+module _ (b : Model) (c : Call) (count : ℕ) (n : length (b .list .sites) ≡ count) where
+  abbrev rowIs : Verdict → Request → Type 0
+  rowIs v q = v ≡ verdict (firstRow (rowsOf b c q))
+
+  module _ (i w : ℕ) where
+    pub change-litres : w ≡ 0 → rowIs (Refused 6) (Change i w)
+    unfolding firstRow
+    change-litres z = sym (rw (eq-eqb w 0 z))
+
+    module _ (z : w ≡ 0 → ⊥) where
+      pub change-beyond : count ≤ i → rowIs (Refused 18) (Change i w)
+      unfolding firstRow
+      change-beyond l = sym (rw (ne-eqb w 0 z, n, le-leb count i l))
+
+      pub change-passes : i < count → rowIs Passes (Change i w)
+      unfolding firstRow
+      change-passes l = sym (rw (ne-eqb w 0 z, n, lt-leb count i l))
+
+  module _ (places : ℕ) (m : b .places ≡ places) (x : Site) where
+    abbrev request : Request
+    request = Add (x .first) (x .second) (x .litres)
+
+    pub add-full : (leb 512 count || leb places count) ≡ true → rowIs (Refused 2) request
+    unfolding firstRow
+    add-full t = sym (rw (n, m, t))
+
+    module _ (t : (leb 512 count || leb places count) ≡ false) where
+      pub add-depots : (ltb 63 (x .first) || ltb 63 (x .second)) ≡ true → rowIs (Refused 5) request
+      unfolding firstRow
+      add-depots u = sym (rw (n, m, t, u))
+
+      module _ (u : (ltb 63 (x .first) || ltb 63 (x .second)) ≡ false) where
+        pub add-litres : x .litres ≡ 0 → rowIs (Refused 6) request
+        unfolding firstRow
+        add-litres z = sym (rw (n, m, t, u, eq-eqb (x .litres) 0 z))
+
+        pub add-passes : (x .litres ≡ 0 → ⊥) → rowIs Passes request
+        unfolding firstRow
+        add-passes z = sym (rw (n, m, t, u, ne-eqb (x .litres) 0 z))
