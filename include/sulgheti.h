@@ -5,12 +5,14 @@
  * bytes may stand anywhere: no alignment is asked of them. What a function writes must not overlap
  * anything else that it is given. The functions keep nothing between calls and allocate nothing; they call
  * memcpy and memset and no other function. They may be called from several threads at once. On one desk only
- * questions may: a load, a change, an added site or a proposal that succeeds writes store and table. A
- * question and a refused call leave both as they were; that no byte of them is written meanwhile is not
- * proved but tested (tests/c/read_only_t.c).
+ * questions may (share, depot, difference, written): a load, a change or an added site that succeeds writes
+ * store and table, a proposal that succeeds the store. What a function takes as const it has no right to
+ * write: the proved function has it as a slice that is only read (&[u8]). A refused call leaves every byte as
+ * it was; tests/c/read_only_t.c asks questions and has calls refused on pages that cannot be written.
  *
  * A refusal is the negated number of the first row that applies (README.md, "What a refusal means"), and
- * SULGHETI_CORRUPT for row 0; then every byte that was lent is as it was.
+ * SULGHETI_CORRUPT for row 0. SULGHETI_NO_STORE is no row: the store's length is that of no store. Where a
+ * call is refused, every byte that was lent is as it was.
  *
  * Records. Numbers are unsigned, low byte first; bytes of the marks are hexadecimal, widths in brackets.
  *   List: 4C 53, number of sites (2); then for each site 53 54, first depot (1), second depot (1), litres (2).
@@ -45,17 +47,22 @@
 #define SULGHETI_STORE_BYTES 2584
 #define SULGHETI_PLACE_BYTES 4
 
-/* The stack in bytes that suffices for sulgheti_check, for sulgheti_make, for sulgheti_fresh, and for any
- * other call of the desk. Measured at 512 sites and rounded up; the frames have fixed sizes, and nothing
- * recurses. tests/c/stack_t.c makes every call on so much and no more, and prints what each wrote. A thread
- * with 128 KB of stack can make every call. */
+/* The stack in bytes that suffices for sulgheti_check, for sulgheti_make, for sulgheti_fresh, for a question
+ * (share, depot, difference, written), and for any other call of the desk (load, change, add, propose).
+ * Measured at 512 sites and rounded up; the frames have fixed sizes, and nothing recurses. tests/c/stack_t.c
+ * makes every call on so much and no more, and prints what each wrote. A thread with 128 KB of stack can make
+ * every call. */
 #define SULGHETI_STACK_CHECK 49152
 #define SULGHETI_STACK_MAKE 65536
 #define SULGHETI_STACK_FRESH 8192
-#define SULGHETI_STACK_DESK 98304
+#define SULGHETI_STACK_QUESTION 40960
+#define SULGHETI_STACK_DESK 65536
 
 /* Row 0: the store or its table does not hold what a desk can hold. */
 #define SULGHETI_CORRUPT (-256)
+
+/* No row: store_len is not SULGHETI_STORE_BYTES. */
+#define SULGHETI_NO_STORE (-257)
 
 #ifdef __cplusplus
 extern "C" {
@@ -71,9 +78,11 @@ int64_t sulgheti_check(const uint8_t *list, size_t list_len, const uint8_t *plan
 int64_t sulgheti_make(const uint8_t *list, size_t list_len, uint8_t *out, size_t out_len);
 
 /* The desk. Each call but sulgheti_fresh gets the store and the table as the one before left them.
- * A store of another length is refused by row 0 by every call, sulgheti_load too. */
+ * A store of another length than SULGHETI_STORE_BYTES is refused by SULGHETI_NO_STORE by every call,
+ * sulgheti_fresh and sulgheti_load too, before any row is tried: nothing that was lent is then changed. Store,
+ * table, list, plan and buffer are not even read, as tests/c/read_only_t.c tests on pages that cannot be. */
 
-/* An empty desk: 0, or SULGHETI_CORRUPT where store_len is not SULGHETI_STORE_BYTES. */
+/* An empty desk: 0. */
 int64_t sulgheti_fresh(uint8_t *store, size_t store_len);
 
 /* The list becomes the desk's, and no plan is held: 0, or rows 1 to 6; row 2 also where the table has
@@ -90,26 +99,26 @@ int64_t sulgheti_add(uint8_t *store, size_t store_len, uint8_t *table, size_t ta
                      uint8_t first, uint8_t second, uint16_t litres);
 
 /* A plan that is true of the list held becomes the plan held: 0, or rows 0, 7 to 16. */
-int64_t sulgheti_propose(uint8_t *store, size_t store_len, uint8_t *table, size_t table_len,
+int64_t sulgheti_propose(uint8_t *store, size_t store_len, const uint8_t *table, size_t table_len,
                          const uint8_t *plan, size_t plan_len);
 
 /* A site's s by the plan held, and its w x q: 0, or rows 0, 17, 18. Here and below the figures stay as
  * they were unless 0 is answered. */
-int64_t sulgheti_share(uint8_t *store, size_t store_len, uint8_t *table, size_t table_len,
+int64_t sulgheti_share(const uint8_t *store, size_t store_len, const uint8_t *table, size_t table_len,
                        size_t site, uint64_t *share, uint64_t *whole);
 
 /* W and q of a depot's group, not reduced: 0, or rows 0, 17, 19. */
-int64_t sulgheti_depot(uint8_t *store, size_t store_len, uint8_t *table, size_t table_len,
+int64_t sulgheti_depot(const uint8_t *store, size_t store_len, const uint8_t *table, size_t table_len,
                        uint8_t depot, uint64_t *litres, uint64_t *size);
 
 /* How many litres more depot a brings than depot b, as a fraction: W of a x q of b less W of b x q of a,
  * and the divisor q of a x q of b: 0, or rows 0, 17, 19. */
-int64_t sulgheti_difference(uint8_t *store, size_t store_len, uint8_t *table, size_t table_len,
+int64_t sulgheti_difference(const uint8_t *store, size_t store_len, const uint8_t *table, size_t table_len,
                             uint8_t a, uint8_t b, int64_t *difference, uint64_t *divisor);
 
 /* The plan held is written to the front of buffer, whose other bytes are unchanged: its length, or rows
  * 0, 17, 20. */
-int64_t sulgheti_written(uint8_t *store, size_t store_len, uint8_t *table, size_t table_len,
+int64_t sulgheti_written(const uint8_t *store, size_t store_len, const uint8_t *table, size_t table_len,
                          uint8_t *buffer, size_t buffer_len);
 
 #ifdef __cplusplus

@@ -2,22 +2,22 @@
 
 const LIST: u16 = u16::from_le_bytes(*b"LS");
 const SITE: u16 = u16::from_le_bytes(*b"ST");
-const PLAN: u16 = u16::from_le_bytes(*b"PL");
-const GROUP: u16 = u16::from_le_bytes(*b"GR");
-const SHARE: u16 = u16::from_le_bytes(*b"SH");
+pub(crate) const PLAN: u16 = u16::from_le_bytes(*b"PL");
+pub(crate) const GROUP: u16 = u16::from_le_bytes(*b"GR");
+pub(crate) const SHARE: u16 = u16::from_le_bytes(*b"SH");
 
-fn half(r: &[u8], at: usize) -> u16 {
+pub(crate) fn half(r: &[u8], at: usize) -> u16 {
     u16::from_le_bytes([r[at], r[at + 1]])
 }
 
-/// The site records of a list that reads and its listed depots, or the row. One pass over the records
-/// notes what is wrong with any of them; the rows are then answered in order.
-fn read(list: &[u8]) -> Result<(&[[u8; 6]], u64), i64> {
+/// The site records of a list of at most so many sites that reads, and its listed depots, or the row. One
+/// pass over the records notes what is wrong with any of them; the rows are then answered in order.
+pub(crate) fn read(list: &[u8], most: usize) -> Result<(&[[u8; 6]], u64), i64> {
     if list.len() < 4 || half(list, 0) != LIST {
         return Err(1);
     }
     let count = usize::from(half(list, 2));
-    if count > 512 {
+    if count > most {
         return Err(2);
     }
     if list.len() != 4 + 6 * count {
@@ -52,7 +52,16 @@ pub fn check(list: &[u8], plan: &[u8]) -> i64 {
 }
 
 fn refusal(list: &[u8], plan: &[u8]) -> Result<(), i64> {
-    let (sites, listed) = read(list)?;
+    let (sites, listed) = read(list, SITES)?;
+    plan_refusal(sites.iter().map(|[_, _, site @ ..]| site), listed, plan)
+}
+
+/// Rows 7 to 16 of a plan for sites that read: first depot, second depot, litres.
+pub(crate) fn plan_refusal<'a>(
+    sites: impl ExactSizeIterator<Item = &'a [u8; 4]>,
+    listed: u64,
+    plan: &[u8],
+) -> Result<(), i64> {
     if plan.len() < 5 || half(plan, 0) != PLAN {
         return Err(7);
     }
@@ -89,10 +98,10 @@ fn refusal(list: &[u8], plan: &[u8]) -> Result<(), i64> {
     let mut litres = [0u64; 64];
     let mut load = [0u64; 64];
     let mut wrong = false;
-    for (site, r) in sites.iter().zip(shares) {
+    for (site, r) in sites.zip(shares) {
         marks |= half(r, 0) ^ SHARE;
-        let (first, second) = (usize::from(site[2] & 63), usize::from(site[3] & 63));
-        let w = u64::from(half(site, 4));
+        let (first, second) = (usize::from(site[0] & 63), usize::from(site[1] & 63));
+        let w = u64::from(half(site, 2));
         let s = u64::from(u32::from_le_bytes([r[2], r[3], r[4], r[5]]));
         let (j, k) = (place[first], place[second]);
         let carrier = usize::from(j.max(k) & 63);
@@ -135,7 +144,7 @@ fn refusal(list: &[u8], plan: &[u8]) -> Result<(), i64> {
 /// nested sets; each attempt lays the sites of a set on their first depots and moves share along
 /// residual arcs; a set that comes out level is a group, otherwise its denser part is tried next.
 pub fn make(list: &[u8], out: &mut [u8]) -> i64 {
-    let (sites, listed) = match read(list) {
+    let (sites, listed) = match read(list, SITES) {
         Ok(read) => read,
         Err(row) => return -row,
     };

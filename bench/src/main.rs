@@ -2,10 +2,13 @@
 //!
 //!     engine-bench [--rounds N] [--only TEXT]     medians of times
 //!     engine-bench --instructions [--only TEXT]   instructions per call, by valgrind's callgrind
+//!     engine-bench --store [--rounds N] [--only TEXT]   medians of times of the desk's calls
 //!
 //! (`--calls WHICH FAMILY N` is what `--instructions` runs under valgrind.)
 
 mod hand;
+mod hand_store;
+mod store;
 
 use std::hint::black_box;
 use std::process::{exit, Command};
@@ -24,11 +27,12 @@ const BATCH: u128 = 40_000;
 
 fn main() {
     let words: Vec<String> = std::env::args().skip(1).collect();
-    let (mut rounds, mut only, mut instructions) = (1001, String::new(), false);
+    let (mut rounds, mut only, mut instructions, mut desk) = (1001, String::new(), false, false);
     let mut rest = words.iter().map(String::as_str);
     while let Some(word) = rest.next() {
         match word {
             "--instructions" => instructions = true,
+            "--store" => desk = true,
             "--rounds" => rounds = figure(rest.next()),
             "--only" => only = rest.next().unwrap_or_else(|| usage()).to_string(),
             "--calls" => {
@@ -40,6 +44,9 @@ fn main() {
     }
     let inputs: Vec<Input> = inputs();
     let chosen = inputs.iter().filter(|i| i.name.contains(&only));
+    if desk {
+        return store::measure(&chosen.collect::<Vec<_>>(), rounds);
+    }
     let measure: &dyn Fn(&Input) -> [f64; 4] = if instructions { &counted } else { &|input| timed(input, rounds) };
     let unit = if instructions { ["instructions", "instructions"] } else { ["ns", "µs"] };
     let scale = if instructions { 1.0 } else { 1000.0 };
@@ -71,7 +78,7 @@ fn main() {
 }
 
 fn usage() -> ! {
-    eprintln!("usage: engine-bench [--instructions] [--rounds N] [--only TEXT]");
+    eprintln!("usage: engine-bench [--instructions | --store] [--rounds N] [--only TEXT]");
     exit(2)
 }
 

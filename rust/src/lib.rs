@@ -2,8 +2,8 @@
 //!
 //! A list and a plan are bytes as `include/sulgheti.h` lays them out; it says too what W, q, s and w x q are.
 //! The engine keeps nothing between calls and allocates nothing; a [`Desk`] owns the bytes of its store and its
-//! table. A thread needs 128 KB of stack. `libengine.a` and `libdesk.a`, for x86-64 Linux, are looked for in the
-//! folder that `SULGHETI_LIB` names, or in the repository's `target/staticlib`.
+//! table. A thread with 128 KB of stack can make every call. `libengine.a` and `libdesk.a`, for x86-64 Linux, are
+//! looked for in the folder that `SULGHETI_LIB` names, or in the repository's `target/staticlib`.
 //!
 //! ```
 //! // One site of 10 litres that depots 0 and 1 supply.
@@ -18,6 +18,14 @@
 //! assert_eq!(desk.depot(0), Err(sulgheti::Row(17)));
 //! desk.propose(&out[..n]).unwrap();
 //! assert_eq!(desk.depot(0), Ok((10, 2)));
+//! // Questions change nothing: threads may ask one desk at once.
+//! std::thread::scope(|threads| {
+//!     threads.spawn(|| assert_eq!(desk.share(0), Ok((10, 20))));
+//!     threads.spawn(|| assert_eq!(desk.difference(0, 1), Ok((0, 4))));
+//! });
+//! // A desk that was kept.
+//! let (store, table) = desk.bytes();
+//! assert_eq!(sulgheti::Desk::from_bytes(*store, table.to_vec()), desk);
 //! desk.change(0, 11).unwrap();
 //! assert_eq!(desk.propose(&out[..n]), Err(sulgheti::Row(15)));
 //! assert!(format!("{:?}", sulgheti::Row(15)).starts_with("refused 15: a depot's shares"));
@@ -37,8 +45,14 @@ pub const STORE_BYTES: usize = 24 + 8 * 64 + 4 * 512;
 /// The bytes of a place of a desk's table.
 pub const PLACE_BYTES: usize = 4;
 
-/// The functions of the archive, as `include/sulgheti.h` has them.
+/// The functions and codes of the archive, as `include/sulgheti.h` has them.
 pub mod ffi {
+    /// Row 0, which with a minus sign would be 0.
+    pub const CORRUPT: i64 = -256;
+
+    /// No row: the store's length is not [`STORE_BYTES`](crate::STORE_BYTES).
+    pub const NO_STORE: i64 = -257;
+
     extern "C" {
         pub fn sulgheti_check(list: *const u8, list_len: usize, plan: *const u8, plan_len: usize) -> i64;
         pub fn sulgheti_make(list: *const u8, list_len: usize, out: *mut u8, out_len: usize) -> i64;
@@ -71,33 +85,33 @@ pub mod ffi {
         pub fn sulgheti_propose(
             store: *mut u8,
             store_len: usize,
-            table: *mut u8,
+            table: *const u8,
             table_len: usize,
             plan: *const u8,
             plan_len: usize,
         ) -> i64;
         pub fn sulgheti_share(
-            store: *mut u8,
+            store: *const u8,
             store_len: usize,
-            table: *mut u8,
+            table: *const u8,
             table_len: usize,
             site: usize,
             share: *mut u64,
             whole: *mut u64,
         ) -> i64;
         pub fn sulgheti_depot(
-            store: *mut u8,
+            store: *const u8,
             store_len: usize,
-            table: *mut u8,
+            table: *const u8,
             table_len: usize,
             depot: u8,
             litres: *mut u64,
             size: *mut u64,
         ) -> i64;
         pub fn sulgheti_difference(
-            store: *mut u8,
+            store: *const u8,
             store_len: usize,
-            table: *mut u8,
+            table: *const u8,
             table_len: usize,
             a: u8,
             b: u8,
@@ -105,9 +119,9 @@ pub mod ffi {
             divisor: *mut u64,
         ) -> i64;
         pub fn sulgheti_written(
-            store: *mut u8,
+            store: *const u8,
             store_len: usize,
-            table: *mut u8,
+            table: *const u8,
             table_len: usize,
             buffer: *mut u8,
             buffer_len: usize,
@@ -133,67 +147,75 @@ pub fn make(list: &[u8], out: &mut [u8]) -> Result<usize, Row> {
 /// A desk: a store and a table of places for sites, both in bytes that it owns.
 ///
 /// A refused call changes nothing. Row 0 is answered only by a desk made of foreign bytes.
+/// Questions, [`written`](Desk::written) among them, take `&self`: the engine only reads store and table.
 #[derive(Clone, Debug, PartialEq, Eq)]
 pub struct Desk {
-    store: Vec<u8>,
+    store: [u8; STORE_BYTES],
     table: Vec<u8>,
 }
 
 impl Desk {
     /// An empty desk with a table of so many places; more than 512 are of no use.
     pub fn new(places: usize) -> Desk {
-        let mut store = vec![0; STORE_BYTES];
+        let mut store = [0; STORE_BYTES];
         // SAFETY: the store is valid for its length.
         let answer = unsafe { ffi::sulgheti_fresh(store.as_mut_ptr(), store.len()) };
         debug_assert_eq!(answer, 0);
         Desk { store, table: vec![0; PLACE_BYTES * places] }
     }
 
-    /// A desk of bytes that were kept, of any content: every call but a load tries row 0, and with a store of another length every call is refused by it.
-    pub fn from_bytes(store: Vec<u8>, table: Vec<u8>) -> Desk {
+    /// A desk of bytes that were kept, of any content: every call but a load tries row 0. A slice of another length
+    /// is no store: its `try_into` fails.
+    pub fn from_bytes(store: [u8; STORE_BYTES], table: Vec<u8>) -> Desk {
         Desk { store, table }
     }
 
     /// The bytes of the store and of the table, as `include/sulgheti.h` lays them out.
-    pub fn bytes(&self) -> (&[u8], &[u8]) {
+    pub fn bytes(&self) -> (&[u8; STORE_BYTES], &[u8]) {
         (&self.store, &self.table)
     }
 
-    /// The pointers and lengths of the store and of the table.
-    fn parts(&mut self) -> (*mut u8, usize, *mut u8, usize) {
+    /// The pointers and lengths of the store and of the table, to be read.
+    fn parts(&self) -> (*const u8, usize, *const u8, usize) {
+        (self.store.as_ptr(), self.store.len(), self.table.as_ptr(), self.table.len())
+    }
+
+    /// The same, to be written.
+    fn parts_mut(&mut self) -> (*mut u8, usize, *mut u8, usize) {
         (self.store.as_mut_ptr(), self.store.len(), self.table.as_mut_ptr(), self.table.len())
     }
 
     /// The list becomes the desk's, and no plan is held. Refused by rows 1 to 6.
     pub fn load(&mut self, list: &[u8]) -> Result<(), Row> {
-        let (store, n, table, m) = self.parts();
-        // SAFETY: here and below, all parts are valid for their lengths and overlap nothing.
+        let (store, n, table, m) = self.parts_mut();
+        // SAFETY: here and below, all parts are valid for their lengths, what is written is borrowed for writing, and it
+        // overlaps nothing.
         taken(unsafe { ffi::sulgheti_load(store, n, table, m, list.as_ptr(), list.len()) }).map(|_| ())
     }
 
     /// A site gets other litres, and no plan is held. Refused by rows 0, 6 and 18.
     pub fn change(&mut self, site: usize, litres: u16) -> Result<(), Row> {
-        let (store, n, table, m) = self.parts();
+        let (store, n, table, m) = self.parts_mut();
         // SAFETY: as above.
         taken(unsafe { ffi::sulgheti_change(store, n, table, m, site, litres) }).map(|_| ())
     }
 
     /// A site joins the end, and no plan is held. Refused by rows 0, 2, 5 and 6.
     pub fn add(&mut self, first: u8, second: u8, litres: u16) -> Result<(), Row> {
-        let (store, n, table, m) = self.parts();
+        let (store, n, table, m) = self.parts_mut();
         // SAFETY: as above.
         taken(unsafe { ffi::sulgheti_add(store, n, table, m, first, second, litres) }).map(|_| ())
     }
 
     /// A plan that is true of the list held becomes the plan held. Refused by rows 0 and 7 to 16.
     pub fn propose(&mut self, plan: &[u8]) -> Result<(), Row> {
-        let (store, n, table, m) = self.parts();
+        let (store, n, table, m) = self.parts_mut();
         // SAFETY: as above.
         taken(unsafe { ffi::sulgheti_propose(store, n, table, m, plan.as_ptr(), plan.len()) }).map(|_| ())
     }
 
     /// A site's s and w x q. Refused by rows 0, 17 and 18.
-    pub fn share(&mut self, site: usize) -> Result<(u64, u64), Row> {
+    pub fn share(&self, site: usize) -> Result<(u64, u64), Row> {
         let (store, n, table, m) = self.parts();
         let (mut share, mut whole) = (0, 0);
         // SAFETY: as above.
@@ -202,7 +224,7 @@ impl Desk {
     }
 
     /// A depot's W and q. Refused by rows 0, 17 and 19.
-    pub fn depot(&mut self, depot: u8) -> Result<(u64, u64), Row> {
+    pub fn depot(&self, depot: u8) -> Result<(u64, u64), Row> {
         let (store, n, table, m) = self.parts();
         let (mut litres, mut size) = (0, 0);
         // SAFETY: as above.
@@ -211,7 +233,7 @@ impl Desk {
     }
 
     /// W of a x q of b less W of b x q of a, and the divisor q of a x q of b. Refused by rows 0, 17 and 19.
-    pub fn difference(&mut self, a: u8, b: u8) -> Result<(i64, u64), Row> {
+    pub fn difference(&self, a: u8, b: u8) -> Result<(i64, u64), Row> {
         let (store, n, table, m) = self.parts();
         let (mut difference, mut divisor) = (0, 0);
         // SAFETY: as above.
@@ -220,24 +242,21 @@ impl Desk {
     }
 
     /// The plan held is written to the front of `buffer`; answers its length. Refused by rows 0, 17 and 20.
-    pub fn written(&mut self, buffer: &mut [u8]) -> Result<usize, Row> {
+    pub fn written(&self, buffer: &mut [u8]) -> Result<usize, Row> {
         let (store, n, table, m) = self.parts();
         // SAFETY: as above.
         taken(unsafe { ffi::sulgheti_written(store, n, table, m, buffer.as_mut_ptr(), buffer.len()) })
     }
 }
 
-/// Row 0, which with a minus sign would be 0.
-const CORRUPT: i64 = -256;
-
 /// An answer taken apart: a figure, or the refusing row below zero.
 fn taken(answer: i64) -> Result<usize, Row> {
-    if answer == CORRUPT {
-        Err(Row(0))
-    } else if answer < 0 {
-        Err(Row(answer.unsigned_abs() as u8))
-    } else {
-        Ok(answer as usize)
+    match answer {
+        0.. => Ok(answer as usize),
+        ffi::CORRUPT => Err(Row(0)),
+        // never answered here: a desk's store has its length by its type
+        ffi::NO_STORE => unreachable!("a store of {STORE_BYTES} bytes"),
+        _ => Err(Row(answer.unsigned_abs() as u8)),
     }
 }
 
@@ -299,7 +318,24 @@ impl std::error::Error for Row {}
 
 #[cfg(test)]
 mod tests {
-    use super::Row;
+    use super::{ffi, Row, LIST_MAX, PLACE_BYTES, PLAN_MAX, STORE_BYTES};
+
+    #[test]
+    fn figures_are_those_of_the_header() {
+        let header = include_str!("../../include/sulgheti.h");
+        let sizes = [
+            ("LIST_MAX", LIST_MAX),
+            ("PLAN_MAX", PLAN_MAX),
+            ("STORE_BYTES", STORE_BYTES),
+            ("PLACE_BYTES", PLACE_BYTES),
+        ];
+        for (name, bytes) in sizes {
+            assert!(header.contains(&format!("\n#define SULGHETI_{name} {bytes}\n")), "{name}");
+        }
+        for (name, code) in [("CORRUPT", ffi::CORRUPT), ("NO_STORE", ffi::NO_STORE)] {
+            assert!(header.contains(&format!("\n#define SULGHETI_{name} ({code})\n")), "{name}");
+        }
+    }
 
     #[test]
     fn words_are_those_of_the_readme() {

@@ -11,7 +11,7 @@ int main(void) {
     int64_t d = 1;
     memset(table, 0xA5, sizeof table);
     if (sulgheti_fresh(store, sizeof store) != 0) return 1;
-    if (sulgheti_fresh(store, sizeof store - 1) != SULGHETI_CORRUPT) return 2;
+    if (sulgheti_fresh(store, sizeof store - 1) != SULGHETI_NO_STORE) return 2;
     if (sulgheti_load(store, sizeof store, table, sizeof table, list, sizeof list) != 0) return 3;
     if (memcmp(table, "\x00\x01\x0A\x00\xA5", 5) != 0) return 4;
     if (sulgheti_depot(store, sizeof store, table, sizeof table, 0, &x, &y) != -17) return 5;

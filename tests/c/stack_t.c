@@ -15,7 +15,7 @@
 #include "sulgheti.h"
 
 /* What the calls are given; the buffers stand at odd addresses, since no alignment is asked of them. */
-static uint64_t rooms[5][512];
+static uint64_t rooms[5][640];
 static uint8_t *const store = (uint8_t *)rooms[0] + 1, *const table = (uint8_t *)rooms[1] + 1, *const list = (uint8_t *)rooms[2] + 1;
 static uint8_t *const plan = (uint8_t *)rooms[3] + 1, *const out = (uint8_t *)rooms[4] + 1;
 static size_t store_len = SULGHETI_STORE_BYTES, table_len = 512 * SULGHETI_PLACE_BYTES, out_len = SULGHETI_PLAN_MAX, list_len, plan_len, site;
@@ -45,8 +45,8 @@ static struct {
 } calls[CALLS] = {
     {"check", check, SULGHETI_STACK_CHECK, 0}, {"make", make, SULGHETI_STACK_MAKE, 0}, {"fresh", fresh, SULGHETI_STACK_FRESH, 0},
     {"load", load, SULGHETI_STACK_DESK, 0}, {"change", change, SULGHETI_STACK_DESK, 0}, {"add", add, SULGHETI_STACK_DESK, 0},
-    {"propose", propose, SULGHETI_STACK_DESK, 0}, {"share", share, SULGHETI_STACK_DESK, 0}, {"depot", depot, SULGHETI_STACK_DESK, 0},
-    {"difference", difference, SULGHETI_STACK_DESK, 0}, {"written", written, SULGHETI_STACK_DESK, 0},
+    {"propose", propose, SULGHETI_STACK_DESK, 0}, {"share", share, SULGHETI_STACK_QUESTION, 0}, {"depot", depot, SULGHETI_STACK_QUESTION, 0},
+    {"difference", difference, SULGHETI_STACK_QUESTION, 0}, {"written", written, SULGHETI_STACK_QUESTION, 0},
 };
 
 /* Pages that cannot be touched, and above them a stack with room for a stated figure and for what a thread needs itself. */
@@ -211,17 +211,20 @@ int main(void) {
         site = 511, litres = 0;
         EXPECT(CHANGE, -6);
 
-        /* row 0: the count of sites, the groups, a site of the table; a store of another length */
+        /* row 0: the count of sites, the groups, a share, a site of the table */
         damaged(store + 1, 3, desk_refused, SULGHETI_CORRUPT);
         damaged(store + 16, 65, desk_refused, SULGHETI_CORRUPT);
         damaged(store + 24, (uint8_t)(store[24] ^ 1), desk_refused, SULGHETI_CORRUPT);
         damaged(store + 24 + 8 * 64 + 4 * 511 + 3, 0xFF, desk_refused, SULGHETI_CORRUPT);
         damaged(table + 4 * 511, 64, desk_refused, SULGHETI_CORRUPT);
-        store_len--;
-        desk_refused(SULGHETI_CORRUPT);
-        EXPECT(LOAD, SULGHETI_CORRUPT);
-        EXPECT(FRESH, SULGHETI_CORRUPT);
-        store_len++;
+
+        /* a store of another length */
+        const size_t lengths[] = {0, 1, SULGHETI_STORE_BYTES - 1, SULGHETI_STORE_BYTES + 1, 4632};
+        for (size_t i = 0; i < sizeof lengths / sizeof *lengths; i++) {
+            store_len = lengths[i];
+            for (int call = FRESH; call < CALLS; call++) EXPECT(call, SULGHETI_NO_STORE);
+        }
+        store_len = SULGHETI_STORE_BYTES;
 
         /* a change, and a last site added */
         litres = 65535;

@@ -1,4 +1,5 @@
-//! The plain book of document 01: a list, a plan or none, and the rows in the paper's order.
+//! The plain book of document 01: a list, a plan or none, and the rows in the paper's order; before them the
+//! store's length, which is no row.
 
 use crate::decompose::by_cuts;
 use crate::records::{listed, plan_bytes, Plan, Site};
@@ -34,7 +35,26 @@ impl Call {
     }
 }
 
-/// What a call answers where no row refuses it.
+/// Why a call is refused.
+#[derive(Clone, Copy, Debug, PartialEq, Eq)]
+pub enum Refusal {
+    /// The store's length is that of no store.
+    NoStore,
+    Row(u8),
+}
+
+impl Refusal {
+    /// The refusal as a code: row 0 has no number below zero, and no store has no row.
+    pub fn code(self) -> i64 {
+        match self {
+            Refusal::NoStore => -257,
+            Refusal::Row(0) => -256,
+            Refusal::Row(row) => -i64::from(row),
+        }
+    }
+}
+
+/// What a call answers where nothing refuses it.
 #[derive(Clone, Debug, PartialEq, Eq)]
 pub enum Told {
     Done,
@@ -211,32 +231,43 @@ fn depots(set: u64) -> Depots {
     std::array::from_fn(|d| set >> d & 1 == 1)
 }
 
-/// The book that the bytes of a store and a table stand for, or row 0: "held site count above 512 or the
-/// table's places, a held site that rows 5 or 6 refuse, or a held plan that rows 8 or 12 to 14 refuse".
-pub fn held(store: &[u8], table: &[u8]) -> Result<Book, u8> {
+/// Every call, a fresh store and a load too, first looks whether the bytes can be a store: 2,584 of them.
+pub fn sized(store: &[u8]) -> Result<(), Refusal> {
+    if store.len() == 2584 {
+        Ok(())
+    } else {
+        Err(Refusal::NoStore)
+    }
+}
+
+/// The book that the bytes of a store and a table stand for; or no store; or row 0: "held site count above 512 or
+/// the table's places, a held site that rows 5 or 6 refuse, or a held plan that rows 8 or 12 to 14 refuse".
+pub fn held(store: &[u8], table: &[u8]) -> Result<Book, Refusal> {
+    sized(store)?;
+    let corrupt = Err(Refusal::Row(0));
     let figure = |at: usize, bytes: usize| (0..bytes).map(|i| u64::from(store[at + i]) << (8 * i)).sum::<u64>();
     let places = table.len() / 4;
-    if store.len() != 2584 || figure(8, 8) > 1 || figure(0, 8) > 512 || figure(0, 8) > places as u64 {
-        return Err(0);
+    if figure(8, 8) > 1 || figure(0, 8) > 512 || figure(0, 8) > places as u64 {
+        return corrupt;
     }
     let count = figure(0, 8) as usize;
     let site = |p: &[u8]| Site { first: p[0], second: p[1], litres: u16::from_le_bytes([p[2], p[3]]) };
     let list: Vec<Site> = table.chunks_exact(4).take(count).map(site).collect();
     if list.iter().any(|s| s.first > 63 || s.second > 63 || s.litres == 0) {
-        return Err(0);
+        return corrupt;
     }
     if figure(8, 8) == 0 {
         return Ok(Book::holding(places, list, None));
     }
     if figure(16, 8) > 64 {
-        return Err(0);
+        return corrupt;
     }
     let groups: Vec<u64> = (0..figure(16, 8) as usize).map(|k| figure(24 + 8 * k, 8)).collect();
     let shares: Vec<u32> = (0..count).map(|i| figure(536 + 4 * i, 4) as u32).collect();
     let sets: Vec<Depots> = groups.iter().map(|&g| depots(g)).collect();
     let wide: Vec<u64> = shares.iter().map(|&s| u64::from(s)).collect();
     match reference::plan_row(&list, &sets, &wide) {
-        12..=14 => Err(0),
+        12..=14 => corrupt,
         _ => Ok(Book::holding(places, list, Some(Plan { groups, shares }))),
     }
 }

@@ -1,6 +1,6 @@
-//! Desk calls beside the plain book: whole histories, and stores and tables of any bytes.
+//! Desk calls beside the plain book: whole histories, stores and tables of any bytes, and stores of other lengths.
 
-use crate::book::{held, Book, Call, Told};
+use crate::book::{held, sized, Book, Call, Refusal, Told};
 use crate::damage::{reordered, spoil, Base};
 use crate::families::{scattered, Extent, FAMILIES};
 use crate::lent::{self, Lent, Reply};
@@ -8,23 +8,24 @@ use crate::near::{miss, next_season};
 use crate::records::{list_bytes, plan_bytes, Plan, Site};
 use crate::run::Run;
 
-/// Row 0 as a code.
-const CORRUPT: i64 = -256;
+/// How often each of the eight calls got each row; place 21 is success, place 22 no store.
+pub type Seen = [[usize; 23]; 8];
 
-/// How often each of the eight calls got each row; place 21 is success.
-pub type Seen = [[usize; 22]; 8];
-
-/// The rows that each call can answer, 21 for success; row 0 only where the bytes are foreign.
+/// The rows that each call can answer, 21 for success; row 0 only where the bytes are foreign. No store, 22, where
+/// they are of another number.
 const ROWS: [&[usize]; 8] = [
-    &[0, 1, 2, 3, 4, 5, 6, 21],
-    &[0, 6, 18, 21],
-    &[0, 2, 5, 6, 21],
-    &[0, 7, 8, 9, 10, 11, 12, 13, 14, 15, 16, 21],
-    &[0, 17, 18, 21],
-    &[0, 17, 19, 21],
-    &[0, 17, 19, 21],
-    &[0, 17, 20, 21],
+    &[1, 2, 3, 4, 5, 6, 21, 22],
+    &[0, 6, 18, 21, 22],
+    &[0, 2, 5, 6, 21, 22],
+    &[0, 7, 8, 9, 10, 11, 12, 13, 14, 15, 16, 21, 22],
+    &[0, 17, 18, 21, 22],
+    &[0, 17, 19, 21, 22],
+    &[0, 17, 19, 21, 22],
+    &[0, 17, 20, 21, 22],
 ];
+
+/// Lengths of no store, around that of a store and of its parts; and 4,632, as of shares of 8 bytes each.
+const LENGTHS: [usize; 11] = [0, 1, 8, 24, 536, 2_583, 2_585, 2_588, 4_632, 5_168, 10_000];
 
 /// The rows of the table that some call never answered.
 pub fn missing(seen: &Seen) -> Vec<(usize, usize)> {
@@ -56,24 +57,28 @@ impl Bytes {
 }
 
 /// One call of the library and of the wrapper, compared with what the book says: the answer, every byte of the
-/// store, of the table and of the buffer, and the guards around them. `book` is the book before the call, or row 0.
-fn call(run: &mut Run, desk: &mut Bytes, book: &mut Result<Book, u8>, call: &Call, seen: &mut Seen) {
+/// store, of the table and of the buffer, and the guards around them. `book` is the book before the call, or what
+/// the bytes are refused by: no store by every call, row 0 by every call but load.
+fn call(run: &mut Run, desk: &mut Bytes, book: &mut Result<Book, Refusal>, call: &Call, seen: &mut Seen) {
     run.cases += 1;
-    let sized = desk.store.len() == sulgheti::STORE_BYTES;
-    // row 0 is tried by every call but load; a load cannot write a store of another length
     let expected = match (&mut *book, call) {
-        (Ok(book), _) => book.answer(call),
-        (Err(_), Call::Load(_)) if sized => {
+        (Ok(book), _) => book.answer(call).map_err(Refusal::Row),
+        (Err(Refusal::Row(_)), Call::Load(_)) => {
             let mut fresh = Book::new(desk.table.len() / 4);
             let answer = fresh.answer(call);
             if answer.is_ok() {
                 *book = Ok(fresh);
             }
-            answer
+            answer.map_err(Refusal::Row)
         }
-        (Err(row), _) => Err(*row),
+        (Err(refusal), _) => Err(*refusal),
     };
-    seen[call.kind()][expected.as_ref().map_or_else(|&row| usize::from(row), |_| 21)] += 1;
+    let place = match expected {
+        Ok(_) => 21,
+        Err(Refusal::NoStore) => 22,
+        Err(Refusal::Row(row)) => usize::from(row),
+    };
+    seen[call.kind()][place] += 1;
 
     let given: &[u8] = match call {
         Call::Load(bytes) | Call::Propose(bytes) => bytes,
@@ -90,8 +95,7 @@ fn call(run: &mut Run, desk: &mut Bytes, book: &mut Result<Book, u8>, call: &Cal
 
     let (mut wanted, mut out) = (old, content.clone());
     match &expected {
-        Err(0) => wanted.code = CORRUPT,
-        Err(row) => wanted.code = -i64::from(*row),
+        Err(refusal) => wanted.code = refusal.code(),
         Ok(Told::Done) => {}
         Ok(Told::Figures(x, y)) => (wanted.first, wanted.second) = (*x, *y),
         Ok(Told::Difference(d, q)) => (wanted.difference, wanted.second) = (*d, *q),
@@ -120,17 +124,18 @@ fn call(run: &mut Run, desk: &mut Bytes, book: &mut Result<Book, u8>, call: &Cal
     *desk = after;
 }
 
-/// The same call of the wrapper.
+/// The same call of the wrapper, whose store has its length by its type.
 fn wrapped(
     run: &mut Run,
     before: &Bytes,
     call: &Call,
-    expected: &Result<Told, u8>,
+    expected: &Result<Told, Refusal>,
     after: &Bytes,
     content: &[u8],
     out: &[u8],
 ) {
-    let mut desk = sulgheti::Desk::from_bytes(before.store.clone(), before.table.clone());
+    let Ok(store) = before.store[..].try_into() else { return };
+    let mut desk = sulgheti::Desk::from_bytes(store, before.table.clone());
     let mut buffer = content.to_vec();
     let answer = match call {
         Call::Load(list) => desk.load(list).map(|()| Told::Done),
@@ -142,7 +147,9 @@ fn wrapped(
         &Call::Difference(a, b) => desk.difference(a, b).map(|(d, q)| Told::Difference(d, q)),
         Call::Written(_) => desk.written(&mut buffer).map(|n| Told::Wrote(buffer[..n].to_vec())),
     };
-    if answer.map_err(|row| row.0) != *expected || desk.bytes() != (&after.store, &after.table) || buffer != out {
+    let (store, table) = desk.bytes();
+    let kept = store[..] == after.store && table == after.table && buffer == out;
+    if answer.map_err(|row| Refusal::Row(row.0)) != *expected || !kept {
         run.fail(&format!("the wrapper's {call:?} differs"), &[("store", &before.store), ("table", &before.table)]);
     }
 }
@@ -273,7 +280,7 @@ fn foreign(run: &mut Run, desk: &Bytes) -> Bytes {
             desk.table.truncate(4 * places + run.rng.below(4));
         }
         7 => {
-            let length = *run.rng.pick(&[0, 1, 24, 2_583, 2_585, 3_000]);
+            let length = *run.rng.pick(&LENGTHS);
             desk.store.resize(length, run.rng.byte());
         }
         8 => desk.store.iter_mut().for_each(|b| *b = run.rng.byte()),
@@ -287,7 +294,7 @@ fn foreign(run: &mut Run, desk: &Bytes) -> Bytes {
 
 /// Histories of desk calls, at least `calls` of them, and calls of foreign bytes.
 pub fn histories(run: &mut Run, calls: usize) -> Seen {
-    let mut seen = [[0; 22]; 8];
+    let mut seen = [[0; 23]; 8];
     let end = run.cases + calls;
     while run.cases < end {
         let (places, most, depots, calls) = match run.rng.below(100) {
@@ -315,12 +322,65 @@ pub fn histories(run: &mut Run, calls: usize) -> Seen {
         }
     }
     full(run, &mut seen);
-    let short: Vec<u8> = vec![1; 2_583];
-    let mut store = Lent::new(&mut run.rng, &short, &[]);
-    if lent::fresh(&mut store) != CORRUPT || !store.unchanged_from(0) {
-        run.fail("a fresh store in 2,583 bytes", &[]);
-    }
+    lengths(run, &mut seen);
     seen
+}
+
+/// Stores of other lengths, cut off or with bytes behind: every call, which the store itself grants or which a row
+/// refuses, leaves all as it was, and so does a fresh one.
+fn lengths(run: &mut Run, seen: &mut Seen) {
+    let sites = vec![Site { first: 0, second: 1, litres: 10 }];
+    let list = list_bytes(&sites);
+    let plan = plan_bytes(&run.plan(&sites));
+    let granted = [
+        Call::Share(0),
+        Call::Depot(1),
+        Call::Difference(0, 1),
+        Call::Written(plan.len()),
+        Call::Propose(plan.clone()),
+        Call::Add(1, 2, 3),
+        Call::Change(0, 11),
+        Call::Load(list.clone()),
+    ];
+    let refused = [
+        Call::Share(1),
+        Call::Depot(2),
+        Call::Difference(64, 0),
+        Call::Written(0),
+        Call::Propose(vec![]),
+        Call::Add(64, 2, 3),
+        Call::Change(0, 0),
+        Call::Load(vec![]),
+    ];
+    // a store that holds the plan, one that row 0 refuses, and one without sites
+    let mut held_plan = Bytes::fresh(run, 3);
+    let mut book = Ok(Book::new(3));
+    for next in [Call::Load(list), Call::Propose(plan)] {
+        call(run, &mut held_plan, &mut book, &next, seen);
+    }
+    for next in &granted {
+        call(run, &mut held_plan.clone(), &mut book.clone(), next, seen);
+    }
+    let mut corrupt = held_plan.clone();
+    corrupt.store[..8].fill(0xFF);
+    for desk in [held_plan, corrupt, Bytes::fresh(run, 0)] {
+        for length in LENGTHS {
+            let mut desk = desk.clone();
+            let fill = run.rng.byte();
+            let behind = desk.store.get(length..).unwrap_or(&[]).to_vec();
+            desk.store.resize(length, fill);
+            for next in granted.iter().chain(&refused) {
+                let mut book = held(&desk.store, &desk.table);
+                call(run, &mut desk, &mut book, next, seen);
+            }
+            run.cases += 1;
+            let mut store = Lent::new(&mut run.rng, &desk.store, &behind);
+            let code = lent::fresh(&mut store);
+            if sized(&desk.store).map_err(Refusal::code) != Err(code) || !store.unchanged_from(0) {
+                run.fail(&format!("a fresh store in {length} bytes answers {code}"), &[("store", &desk.store)]);
+            }
+        }
+    }
 }
 
 /// A desk with 512 sites, in a table that has room for more: no site can be added.

@@ -71,18 +71,22 @@ pub struct Reply {
 /// A desk call; `given` is a load's list or a proposal's plan, `figures` what stood where the figures go.
 pub fn desk(call: &Call, store: &mut Lent, table: &mut Lent, given: &Lent, buffer: &mut Lent, figures: Reply) -> Reply {
     let mut r = figures;
-    let (s, n, t, m) = (store.at_mut(), store.len, table.at_mut(), table.len);
+    let (n, m) = (store.len, table.len);
     // SAFETY: all are valid for their lengths and do not overlap.
     r.code = unsafe {
         match *call {
-            Call::Load(_) => ffi::sulgheti_load(s, n, t, m, given.at(), given.len),
-            Call::Change(site, litres) => ffi::sulgheti_change(s, n, t, m, site, litres),
-            Call::Add(first, second, litres) => ffi::sulgheti_add(s, n, t, m, first, second, litres),
-            Call::Propose(_) => ffi::sulgheti_propose(s, n, t, m, given.at(), given.len),
-            Call::Share(site) => ffi::sulgheti_share(s, n, t, m, site, &mut r.first, &mut r.second),
-            Call::Depot(depot) => ffi::sulgheti_depot(s, n, t, m, depot, &mut r.first, &mut r.second),
-            Call::Difference(a, b) => ffi::sulgheti_difference(s, n, t, m, a, b, &mut r.difference, &mut r.second),
-            Call::Written(_) => ffi::sulgheti_written(s, n, t, m, buffer.at_mut(), buffer.len),
+            Call::Load(_) => ffi::sulgheti_load(store.at_mut(), n, table.at_mut(), m, given.at(), given.len),
+            Call::Change(site, litres) => ffi::sulgheti_change(store.at_mut(), n, table.at_mut(), m, site, litres),
+            Call::Add(first, second, litres) => {
+                ffi::sulgheti_add(store.at_mut(), n, table.at_mut(), m, first, second, litres)
+            }
+            Call::Propose(_) => ffi::sulgheti_propose(store.at_mut(), n, table.at(), m, given.at(), given.len),
+            Call::Written(_) => ffi::sulgheti_written(store.at(), n, table.at(), m, buffer.at_mut(), buffer.len),
+            Call::Share(site) => ffi::sulgheti_share(store.at(), n, table.at(), m, site, &mut r.first, &mut r.second),
+            Call::Depot(depot) => ffi::sulgheti_depot(store.at(), n, table.at(), m, depot, &mut r.first, &mut r.second),
+            Call::Difference(a, b) => {
+                ffi::sulgheti_difference(store.at(), n, table.at(), m, a, b, &mut r.difference, &mut r.second)
+            }
         }
     };
     r

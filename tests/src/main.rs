@@ -54,10 +54,10 @@ fn main() {
             random_list(run);
         }
     });
-    let mut seen = [[0; 22]; 8];
+    let mut seen = [[0; 23]; 8];
     part("desk", &mut run, &mut |run| seen = desk::histories(run, 60_000.max(cases / 4)));
     for (kind, row) in desk::missing(&seen) {
-        run.fail(&format!("desk call {kind} never answered row {row} (21: success)"), &[]);
+        run.fail(&format!("desk call {kind} never answered row {row} (21: success, 22: no store)"), &[]);
     }
 
     let rows: Vec<String> =
@@ -67,8 +67,8 @@ fn main() {
         run.makes.iter().enumerate().filter(|(_, &n)| n > 0).map(|(r, n)| format!("{r}:{n}")).collect();
     println!("make, cases by row (0 makes): {}", rows.join(" "));
     let rows: Vec<String> =
-        (0..22).map(|r| format!("{r}:{}", seen.iter().map(|calls| calls[r]).sum::<usize>())).collect();
-    println!("desk, calls by row (21: success): {}", rows.join(" "));
+        (0..23).map(|r| format!("{r}:{}", seen.iter().map(|calls| calls[r]).sum::<usize>())).collect();
+    println!("desk, calls by row (21: success, 22: no store): {}", rows.join(" "));
     println!("{} lists counted over all sets; {} plans judged by the definition", run.counted, run.judged);
     if (0..=16).any(|r| run.checks[r] == 0) || [0, 1, 2, 3, 4, 5, 6, 20].iter().any(|&r: &usize| run.makes[r] == 0) {
         run.fail("a row was never answered", &[]);

@@ -1,0 +1,383 @@
+//! The desk's calls beside hand-written ones over the same bytes.
+
+use std::hint::black_box;
+use std::time::Instant;
+
+use engine_tests::damage::{reordered, spoil, Base};
+use engine_tests::families::{scattered, Extent, FAMILIES};
+use engine_tests::records::{list_bytes, listed, members, plan_bytes, Plan, Site};
+use engine_tests::rng::Rng;
+use sulgheti::{ffi, PLAN_MAX, STORE_BYTES};
+
+use crate::{hand, hand_store, Input, BATCH};
+
+/// How many desks the calls of a batch go round, so that what a call writes is put back between batches.
+const DESKS: usize = 16;
+
+/// How many random desks both versions must agree on before anything is measured.
+const CASES: usize = 4000;
+
+/// The bytes of a store and its table.
+#[derive(Clone, PartialEq, Debug)]
+struct Desk {
+    store: Vec<u8>,
+    table: Vec<u8>,
+}
+
+/// A call, and what it is given beside store and table.
+#[derive(Clone, Debug)]
+enum Call {
+    Fresh,
+    Load(Vec<u8>),
+    Change(usize, u16),
+    Add(u8, u8, u16),
+    Propose(Vec<u8>),
+    Share(usize),
+    Depot(u8),
+    Difference(u8, u8),
+    Written(usize),
+}
+
+/// What a call writes beside store and table.
+#[derive(Clone, PartialEq, Debug)]
+struct Out {
+    figures: [u64; 2],
+    difference: i64,
+    buffer: Vec<u8>,
+}
+
+impl Out {
+    fn new() -> Out {
+        Out { figures: [0xA5A5; 2], difference: 0x5A5A, buffer: vec![0xA5; PLAN_MAX] }
+    }
+}
+
+type Version = fn(&Call, &mut Desk, &mut Out) -> i64;
+
+const VERSIONS: [Version; 2] = [by_engine, by_hand];
+
+fn by_engine(call: &Call, desk: &mut Desk, out: &mut Out) -> i64 {
+    let (store, n, table, m) = (desk.store.as_mut_ptr(), desk.store.len(), desk.table.as_mut_ptr(), desk.table.len());
+    let [one, two] = &mut out.figures;
+    // SAFETY: all parts are valid for their lengths and overlap nothing.
+    unsafe {
+        match call {
+            Call::Fresh => ffi::sulgheti_fresh(store, n),
+            Call::Load(list) => ffi::sulgheti_load(store, n, table, m, list.as_ptr(), list.len()),
+            Call::Change(site, litres) => ffi::sulgheti_change(store, n, table, m, *site, *litres),
+            Call::Add(first, second, litres) => ffi::sulgheti_add(store, n, table, m, *first, *second, *litres),
+            Call::Propose(plan) => ffi::sulgheti_propose(store, n, table, m, plan.as_ptr(), plan.len()),
+            Call::Share(site) => ffi::sulgheti_share(store, n, table, m, *site, one, two),
+            Call::Depot(depot) => ffi::sulgheti_depot(store, n, table, m, *depot, one, two),
+            Call::Difference(a, b) => ffi::sulgheti_difference(store, n, table, m, *a, *b, &mut out.difference, one),
+            Call::Written(length) => {
+                let buffer = &mut out.buffer[..*length];
+                ffi::sulgheti_written(store, n, table, m, buffer.as_mut_ptr(), buffer.len())
+            }
+        }
+    }
+}
+
+fn by_hand(call: &Call, desk: &mut Desk, out: &mut Out) -> i64 {
+    let Desk { store, table } = desk;
+    let [one, two] = &mut out.figures;
+    match call {
+        Call::Fresh => hand_store::fresh(store),
+        Call::Load(list) => hand_store::load(store, table, list),
+        Call::Change(site, litres) => hand_store::change(store, table, *site, *litres),
+        Call::Add(first, second, litres) => hand_store::add(store, table, *first, *second, *litres),
+        Call::Propose(plan) => hand_store::propose(store, table, plan),
+        Call::Share(site) => hand_store::share(store, table, *site, one, two),
+        Call::Depot(depot) => hand_store::depot(store, table, *depot, one, two),
+        Call::Difference(a, b) => hand_store::difference(store, table, *a, *b, &mut out.difference, one),
+        Call::Written(length) => hand_store::written(store, table, &mut out.buffer[..*length]),
+    }
+}
+
+/// Calls both versions at equal bytes; code, figures, store, table and buffer must be the same. Answers the code.
+fn agree(call: &Call, desk: &mut Desk) -> i64 {
+    let mut other = desk.clone();
+    let (mut out, mut other_out) = (Out::new(), Out::new());
+    let code = by_engine(call, desk, &mut out);
+    let other_code = by_hand(call, &mut other, &mut other_out);
+    assert_eq!(code, other_code, "engine and hand on {call:?} at {desk:?}");
+    assert!(out == other_out, "what engine and hand write on {call:?} at {desk:?}");
+    assert!(*desk == other, "store and table after {call:?}: engine {desk:?}, hand {other:?}");
+    code
+}
+
+/// A desk with a table of so many bytes that has loaded a list and holds a plan, where one is given. Sites
+/// stand in the other places too.
+fn holding(bytes: usize, list: &[u8], plan: Option<&[u8]>) -> Desk {
+    let mut desk = Desk { store: vec![0xA5; STORE_BYTES], table: vec![1; bytes] };
+    assert_eq!(agree(&Call::Fresh, &mut desk), 0);
+    assert_eq!(agree(&Call::Load(list.to_vec()), &mut desk), 0);
+    if let Some(plan) = plan {
+        assert_eq!(agree(&Call::Propose(plan.to_vec()), &mut desk), 0);
+    }
+    desk
+}
+
+fn made(list: &[u8]) -> Vec<u8> {
+    let mut plan = vec![0; PLAN_MAX];
+    let length = hand::make(list, &mut plan);
+    plan.truncate(length as usize);
+    plan
+}
+
+/// A line of the table: what it is called, the desk before each call, and the calls, one for each desk.
+struct Line {
+    name: &'static str,
+    desk: Desk,
+    calls: Vec<Call>,
+    /// Whether a call leaves the desk as the next one needs it.
+    stays: bool,
+}
+
+fn lines(input: &Input) -> Vec<Line> {
+    let (list, plan) = (&input.list, &input.plan);
+    let table = 4 * input.sites;
+    let full = holding(table, list, Some(plan));
+    let planless = holding(table, list, None);
+    // without its last site
+    let mut shorter = list[..list.len() - 6].to_vec();
+    shorter[2..4].copy_from_slice(&(input.sites as u16 - 1).to_le_bytes());
+    let room = holding(table, &shorter, Some(&made(&shorter)));
+    let last = &list[list.len() - 6..];
+    let depots = members(list[4..].chunks(6).fold(0, |set, r| set | 1 << r[2] | 1 << r[3]));
+    let site = |i: usize| i * input.sites / DESKS;
+    let depot = |i: usize| depots[i * depots.len() / DESKS] as u8;
+    let line = |name, desk: &Desk, stays, call: &dyn Fn(usize) -> Call| Line {
+        name,
+        desk: desk.clone(),
+        calls: (0..DESKS).map(call).collect(),
+        stays,
+    };
+    vec![
+        line("fresh", &full, true, &|_| Call::Fresh),
+        line("load", &full, true, &|_| Call::Load(list.clone())),
+        line("change", &full, false, &|i| Call::Change(site(i), 1 + i as u16)),
+        line("add", &room, false, &|_| Call::Add(last[2], last[3], hand::half(last, 4))),
+        line("propose, a plan held", &full, true, &|_| Call::Propose(plan.clone())),
+        line("propose, none held", &planless, false, &|_| Call::Propose(plan.clone())),
+        line("share", &full, true, &|i| Call::Share(site(i))),
+        line("depot", &full, true, &|i| Call::Depot(depot(i))),
+        line("difference", &full, true, &|i| Call::Difference(depot(i), depot(DESKS - 1 - i))),
+        line("written", &full, true, &|_| Call::Written(PLAN_MAX)),
+    ]
+}
+
+/// Nanoseconds per call by engine and by hand: medians of batches, the versions in turn. A batch is one or
+/// more rounds over the desks; they are put back before it, outside the time.
+fn timed(line: &Line, rounds: usize) -> [f64; 2] {
+    let mut desks = vec![line.desk.clone(); DESKS];
+    let mut out = Out::new();
+    let mut batch = |version: Version, turns: usize| {
+        if !line.stays {
+            for desk in &mut desks {
+                desk.store.copy_from_slice(&line.desk.store);
+                desk.table.copy_from_slice(&line.desk.table);
+            }
+        }
+        let start = Instant::now();
+        for _ in 0..turns {
+            for (call, desk) in line.calls.iter().zip(&mut desks) {
+                let answer = version(black_box(call), black_box(desk), &mut out);
+                assert!(answer >= 0, "{} is refused by {answer}", line.name);
+            }
+        }
+        start.elapsed().as_nanos() as f64 / (turns * DESKS) as f64
+    };
+    let turns = VERSIONS.map(|version| {
+        let each = batch(version, 1).min(batch(version, 1)).max(1.0);
+        if line.stays {
+            (BATCH as f64 / (each * DESKS as f64)).ceil() as usize
+        } else {
+            1
+        }
+    });
+    let mut times: [Vec<f64>; 2] = Default::default();
+    for _ in 0..rounds {
+        for (i, version) in VERSIONS.into_iter().enumerate() {
+            times[i].push(batch(version, turns[i]));
+        }
+    }
+    times.map(|mut t| {
+        t.sort_by(f64::total_cmp);
+        t[t.len() / 2]
+    })
+}
+
+/// The table: for each call the means over the lists, and the list with the worst ratio.
+pub fn measure(inputs: &[&Input], rounds: usize) {
+    compare(inputs);
+    let mut rows: Vec<(&str, Vec<[f64; 2]>)> = Vec::new();
+    for input in inputs {
+        for (i, line) in lines(input).iter().enumerate() {
+            if rows.len() == i {
+                rows.push((line.name, Vec::new()));
+            }
+            rows[i].1.push(timed(line, rounds));
+        }
+    }
+    println!("| call | ns | by hand | ratio | worst ratio |");
+    println!("|---|---|---|---|---|");
+    for (name, times) in rows {
+        let n = times.len() as f64;
+        let [engine, hand] = [0, 1].map(|v| times.iter().map(|t| t[v]).sum::<f64>() / n);
+        let ratios: Vec<f64> = times.iter().map(|t| t[0] / t[1]).collect();
+        let mean = (ratios.iter().map(|r| r.ln()).sum::<f64>() / n).exp();
+        let worst = (0..ratios.len()).max_by(|&i, &j| ratios[i].total_cmp(&ratios[j])).expect("a list");
+        println!("| {name} | {engine:.0} | {hand:.0} | {mean:.2} | {:.2} ({}) |", ratios[worst], inputs[worst].name);
+    }
+}
+
+/// Every call that is measured, and calls at random desks, some of them damaged: both versions must agree.
+fn compare(inputs: &[&Input]) {
+    for input in inputs {
+        for line in lines(input) {
+            for call in &line.calls {
+                assert!(agree(call, &mut line.desk.clone()) >= 0, "{} on {}", line.name, input.name);
+            }
+        }
+    }
+    let mut rng = Rng::new(1);
+    let (mut calls, mut granted, mut refused) = (0, 0, [0; 21]);
+    for _ in 0..CASES {
+        let base = random_base(&mut rng);
+        let (list, plan) = (list_bytes(&base.sites), plan_bytes(&base.plan));
+        let bytes = 4 * (base.sites.len() + *rng.pick(&[0, 1, 2, 600])) + rng.below(4);
+        let mut desk = holding(bytes, &list, rng.percent(80).then_some(&plan));
+        if rng.percent(60) {
+            for _ in 0..rng.from_to(1, 2) {
+                damage(&mut rng, &mut desk);
+            }
+        }
+        for _ in 0..12 {
+            let mut after = desk.clone();
+            let code = agree(&random_call(&mut rng, &base), &mut after);
+            calls += 1;
+            match code {
+                0.. => granted += 1,
+                -256 => refused[0] += 1,
+                _ => refused[code.unsigned_abs() as usize] += 1,
+            }
+            if rng.percent(30) {
+                desk = after;
+            }
+        }
+    }
+    let never: Vec<usize> = (0..refused.len()).filter(|&row| refused[row] == 0).collect();
+    assert!(never.is_empty() && granted > 0, "rows never met: {never:?}");
+    eprintln!("engine and hand agree on {calls} calls: {granted} granted, refused by row {refused:?}");
+}
+
+fn random_base(rng: &mut Rng) -> Base {
+    let (most, depots) = *rng.pick(&[(6, 3), (6, 3), (20, 7), (20, 7), (100, 30), (512, 64)]);
+    let sites = if rng.percent(20) { most } else { rng.from_to(0, most) };
+    let e = Extent { sites, depots: rng.from_to(1, depots), litres: *rng.pick(&[3, 100, 65_535]) };
+    let family = rng.pick(&FAMILIES).1;
+    let sites = family(rng, e);
+    let sites: Vec<Site> = if rng.percent(50) { scattered(rng, &sites) } else { sites };
+    let bytes = made(&list_bytes(&sites));
+    let grouped = usize::from(bytes[2]);
+    let (front, back) = bytes[5..].split_at(10 * grouped);
+    let groups = front.chunks(10).map(|r| u64::from_le_bytes(r[2..].try_into().expect("8 bytes"))).collect();
+    let shares = back.chunks(6).map(|r| u32::from_le_bytes(r[2..].try_into().expect("4 bytes"))).collect();
+    Base { sites, plan: Plan { groups, shares } }
+}
+
+/// Changes the figures of the store, a place, or any bytes; never the store's length.
+fn damage(rng: &mut Rng, desk: &mut Desk) {
+    let put = |bytes: &mut [u8], at: usize, with: &[u8]| bytes[at..at + with.len()].copy_from_slice(with);
+    let places = (desk.table.len() / 4) as u64;
+    let count = u64::from(desk.store[0]) | u64::from(desk.store[1]) << 8;
+    let grouped = u64::from(desk.store[16]).clamp(1, 64) as usize;
+    let near = (count as usize).clamp(1, 512);
+    match rng.below(10) {
+        0 => {
+            let figure = *rng.pick(&[0, 1, count.wrapping_sub(1), count + 1, places, places + 1, 512, 513, 1 << 32]);
+            put(&mut desk.store, 0, &figure.to_le_bytes());
+        }
+        1 => put(&mut desk.store, 8, &rng.pick(&[0u64, 1, 2, 256, 1 << 63]).to_le_bytes()),
+        2 => {
+            let figure = *rng.pick(&[0, 1, grouped as u64 - 1, grouped as u64 + 1, 63, 64, 65, 1 << 40]);
+            put(&mut desk.store, 16, &figure.to_le_bytes());
+        }
+        3 => {
+            let at = 24 + 8 * rng.below(grouped) + rng.below(8);
+            desk.store[at] ^= 1 << rng.below(8);
+        }
+        4 => {
+            let at = 536 + 4 * rng.below(near);
+            let share = *rng.pick(&[0, 1, 40, 4_194_240, u32::MAX]);
+            put(&mut desk.store, at, &share.to_le_bytes());
+        }
+        5 => {
+            let at = 536 + 4 * rng.below(near);
+            desk.store[at] = desk.store[at].wrapping_add(*rng.pick(&[1, 255]));
+        }
+        6 if places > 0 => {
+            let place = 4 * rng.below(near.min(places as usize));
+            if rng.percent(30) {
+                put(&mut desk.table, place + 2, &[0, 0]);
+            } else {
+                desk.table[place + rng.below(4)] = *rng.pick(&[0, 1, 2, 63, 64, 255]);
+            }
+        }
+        7 => {
+            let length = desk.table.len();
+            desk.table.truncate(length - rng.below(9).min(length));
+        }
+        8 if rng.percent(20) => desk.store.iter_mut().for_each(|b| *b = rng.byte()),
+        _ => {
+            let at = rng.below(STORE_BYTES);
+            desk.store[at] ^= 1 << rng.below(8);
+        }
+    }
+}
+
+fn random_call(rng: &mut Rng, base: &Base) -> Call {
+    let near = base.sites.len() + 2;
+    let named = members(listed(&base.sites));
+    let depot = |rng: &mut Rng| match rng.below(20) {
+        0 => rng.byte(),
+        1 => rng.below(64) as u8,
+        _ if named.is_empty() => 0,
+        _ => *rng.pick(&named) as u8,
+    };
+    let litres = |rng: &mut Rng| *rng.pick(&[0, 1, 2, 7, 100, 65_535]);
+    let (mut list, mut plan) = (list_bytes(&base.sites), plan_bytes(&base.plan));
+    match rng.below(12) {
+        0 if rng.percent(20) => Call::Fresh,
+        0 | 1 => {
+            if rng.percent(70) {
+                let row = 1 + rng.below(6) as u8;
+                spoil(rng, row, base, &mut list, &mut plan);
+            }
+            Call::Load(list)
+        }
+        2 => Call::Change(rng.below(near), litres(rng)),
+        3 => Call::Add(depot(rng), depot(rng), litres(rng)),
+        4..=6 => {
+            if rng.percent(60) {
+                // the later row first: it counts on bytes that the earlier one may cut off
+                let row = 7 + rng.below(9) as u8;
+                spoil(rng, row, base, &mut list, &mut plan);
+                if row > 7 && rng.percent(30) {
+                    let earlier = 7 + rng.below(usize::from(row) - 7) as u8;
+                    spoil(rng, earlier, base, &mut list, &mut plan);
+                }
+            } else if rng.percent(30) {
+                if let Some(other) = reordered(rng, base) {
+                    plan = plan_bytes(&other);
+                }
+            }
+            Call::Propose(plan)
+        }
+        7 => Call::Share(if rng.percent(3) { rng.word() as usize } else { rng.below(near) }),
+        8 => Call::Depot(depot(rng)),
+        9 | 10 => Call::Difference(depot(rng), depot(rng)),
+        _ => Call::Written((plan.len() + rng.below(4)).saturating_sub(2).min(PLAN_MAX)),
+    }
+}
