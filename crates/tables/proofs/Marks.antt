@@ -1,5 +1,5 @@
 -- The places of the depots, marked from the last group to the first. Assumes nothing.
-use mathlib.Core.Path.{_≡_, refl, sym, ap, _∙_}
+use mathlib.Core.Path.{_≡_, sym, ap, _∙_}
 use mathlib.Core.Logic.{⊎-elim}
 use mathlib.Core.Bool.{Bool, true, false, cond, not, _&&_, and-true}
 use mathlib.Core.List.{List}
@@ -16,7 +16,6 @@ use Rattle.sets.proofs.Member.{member-lt}
 use Rattle.sets.proofs.Set.{empty→, has-without, has-single}
 use Rattle.sets.proofs.Weigh.{weigh-lt, lowest-has}
 use Rattle.density.specs.Plan.{place}
-use Rattle.tables.specs.Tables.{Holds}
 
 -- ---- a set's depots, from the lowest on
 

@@ -1,21 +1,20 @@
 -- The network of a list as a value, and its listed depots gathered from the sites. Assumes nothing.
 use mathlib.Core.Path.{_≡_, sym, ap, ap₂, _∙_, subst}
-use mathlib.Core.Logic.{⊎-elim}
 use mathlib.Core.Bool.{Bool, _||_, or-assoc}
 use mathlib.Core.List.{List}
 use Prim.Native.Nat.{ℕ, _+_, _≤_, _<_}
 use native.Mathlib.Numerals.{add-one}
 use native.Mathlib.Omega.{arith}
-use lib.Dec.{T, eqb, ltb, eqb→eq, eqb-refl, ltb→lt}
+use lib.Dec.{T, eqb, ltb, ltb→lt}
 use lib.ListN.{length, getD}
 use lib.Seq.{getD-take, length-take-le}
 use Rattle.sets.specs.Sum.{any}
 use Rattle.sets.specs.Set.{Depots, only, _∪_, has, setOf}
-use Rattle.sets.proofs.Test.{or-l, or-r, or-cases, and-l, and-r, eqb-swap}
-use Rattle.sets.proofs.Sum.{all-at, any-at, any-from, any-cong}
+use Rattle.sets.proofs.Test.{and-l, and-r, eqb-swap}
+use Rattle.sets.proofs.Sum.{all-at, any-cong}
 use Rattle.sets.proofs.Member.{has-none, setOf-lt, has-setOf, setOf-is}
 use Rattle.density.specs.declared.Site.{Site}
-use Rattle.density.specs.Network.{Listing, noSite, siteAt, names, network, depotsInRange, Valid}
+use Rattle.density.specs.Network.{noSite, siteAt, names, network, depotsInRange}
 use Rattle.records.specs.declared.ListArray.{ListArray}
 use Rattle.records.specs.Values.{listing}
 use Rattle.tables.specs.Tables.{net}

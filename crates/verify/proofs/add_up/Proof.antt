@@ -18,6 +18,31 @@ Inv-loop count sets shares places sizes wholes₀ list set₀ litres₀ i₀ who
 abbrev μ-loop : tie.MeasureT-loop
 μ-loop count sets shares places sizes wholes₀ list set₀ litres₀ i₀ wholes set litres i = list .count - i
 
+-- where the loop's test passed: the beginning
+abbrev start : tie.In-loop Inv-loop μ-loop → tie.Start Inv-loop μ-loop
+start t = t .before .before .before .before .before .before .before
+
+-- the turns of the loop in which the place of the first depot is read, that of the second, and the later of both is known
+abbrev first : tie.After-shared-slice-known6 Inv-loop μ-loop → tie.In-loop Inv-loop μ-loop
+first c = c .before .before .before .before
+
+abbrev second : tie.After-shared-slice-known7 Inv-loop μ-loop → tie.In-loop Inv-loop μ-loop
+second c = first (c .before .before)
+
+abbrev placed : tie.After-later Inv-loop μ-loop → tie.In-loop Inv-loop μ-loop
+placed c = second (c .before)
+
+-- the turn in which the site's litres are known
+abbrev turn : tie.After-litres-of Inv-loop μ-loop → tie.In-loop Inv-loop μ-loop
+turn m = placed (m .before .before)
+
+-- where its litres were known, of a share that breaks a rule and of one that does not
+abbrev broken : tie.After-listed2 Inv-loop μ-loop → tie.After-litres-of Inv-loop μ-loop
+broken c = c .before .before .before .before
+
+abbrev sound : tie.After-name Inv-loop μ-loop → tie.After-litres-of Inv-loop μ-loop
+sound c = c .before .before .before .before
+
 wide : (s : tie.Start Inv-loop μ-loop) → length (s .args .t1 .sites) ≡ 512
 wide s = simp length-map at (s .good .0 .1 .1 .1 .0 .1 .0 .1)
 
@@ -28,22 +53,22 @@ loop-holds c =
 
 mul-s : tie.Need-mul-s Inv-loop μ-loop
 mul-s c =
-    let s = c .before .before .before .before .before .before .before in
+    let s = start c in
     omega (arith, s .pre .0 .sites)
 
 element-copy-out-s : tie.Need-element-copy-out-s Inv-loop μ-loop
 element-copy-out-s c =
-    let s = c .before .before .before .before .before .before .before in
+    let s = start c in
     omega (arith, s .pre .0 .sites)
 
 mul-share : tie.Need-mul-share Inv-loop μ-loop
 mul-share c =
-    let s = c .before .before .before .before .before .before .before .before in
+    let s = start (c .before) in
     omega (arith, s .pre .0 .sites, s .pre .2)
 
 shared-slice-read-share : tie.Need-shared-slice-read-share Inv-loop μ-loop
 shared-slice-read-share c =
-    let s = c .before .before .before .before .before .before .before .before .before in
+    let s = start (c .before .before) in
     omega (arith, s .pre .0 .sites, s .pre .2)
 
 cast-a : tie.Need-cast-a Inv-loop μ-loop
@@ -51,9 +76,10 @@ cast-a c = search needs
 
 shared-slice-read-a : tie.Need-shared-slice-read-a Inv-loop μ-loop
 shared-slice-read-a c =
-    let s = c .before .before .before .before .before .before .before .before .before .before .before in
-    let l = c .before .before .before .before .before .loop in
-    let here = c .before .before .before .before .loop-test .taken in
+    let t = first c in
+    let s = start t in
+    let l = t .before .loop in
+    let here = t .loop-test .taken in
     let list = s .args .t1 in
     omega (arith, site-small list (wide s) (s .pre .0 .sites) (s .pre .0 .range) (l .i) here .0, s .pre .1 .length-places)
 
@@ -62,9 +88,10 @@ cast-b c = search needs
 
 shared-slice-read-b : tie.Need-shared-slice-read-b Inv-loop μ-loop
 shared-slice-read-b c =
-    let s = c .before .before .before .before .before .before .before .before .before .before .before .before .before in
-    let l = c .before .before .before .before .before .before .before .loop in
-    let here = c .before .before .before .before .before .before .loop-test .taken in
+    let t = second c in
+    let s = start t in
+    let l = t .before .loop in
+    let here = t .loop-test .taken in
     let list = s .args .t1 in
     omega (arith, site-small list (wide s) (s .pre .0 .sites) (s .pre .0 .range) (l .i) here .1, s .pre .1 .length-places)
 
@@ -76,20 +103,22 @@ cast-k c = search needs
 
 listed-requires : tie.Need-listed-requires Inv-loop μ-loop
 listed-requires c κs =
-    let s = c .before .before .before .before .before .before .before .before .before .before .before .before .before .before .before in
+    let s = start (placed (c .before)) in
     (s .pre .0 .sites, s .pre .0 .range)
 
 same-length : tie.Need-same-length Inv-loop μ-loop
 same-length c =
-    let s = c .before .before .before .before .before .before .before .before .before .before .before .before .before .before .before .before in
-    let h = c .before .before .before .before .before .before .before .before .before .before .loop .inv .2 in
+    let t = placed (c .before .before) in
+    let s = start t in
+    let h = t .before .loop .inv .2 in
     omega (arith, h .wide, s .pre .3)
 
 returns : tie.Need-returns Inv-loop μ-loop
 returns c =
-    let s = c .before .before .before .before .before .before .before .before .before .before .before .before .before .before .before .before in
-    let l = c .before .before .before .before .before .before .before .before .before .before .loop in
-    let here = c .before .before .before .before .before .before .before .before .before .loop-test .taken in
+    let t = placed (c .before .before) in
+    let s = start t in
+    let l = t .before .loop in
+    let here = t .loop-test .taken in
     (c .listed .ensures, pass-broken _ _ _ _ _ refl (λ r. absurd (no-group _ _ _ _ (s .pre .1) (l .i) here _ (c .before .before .later .ensures) (c .before .if1 .taken) r)))
 
 litres-of-requires : tie.Need-litres-of-requires Inv-loop μ-loop
@@ -97,19 +126,19 @@ litres-of-requires c κs = search needs
 
 mul-all : tie.Need-mul-all Inv-loop μ-loop
 mul-all c =
-    let s = c .before .before .before .before .before .before .before .before .before .before .before .before .before .before .before .before in
+    let s = start (turn c) in
     let g = c .before .if1 .left in
     omega (arith, g, s .pre .0 .groups)
 
 shared-slice-read-all : tie.Need-shared-slice-read-all Inv-loop μ-loop
 shared-slice-read-all c =
-    let s = c .before .before .before .before .before .before .before .before .before .before .before .before .before .before .before .before .before in
+    let s = start (turn (c .before)) in
     let g = c .before .before .if1 .left in
     omega (arith, g, s .pre .0 .groups, s .pre .1 .length-sizes)
 
 mul-all-2 : tie.Need-mul-all-2 Inv-loop μ-loop
 mul-all-2 c =
-    let s = c .before .before .before .before .before .before .before .before .before .before .before .before .before .before .before .before .before in
+    let s = start (turn (c .before)) in
     let k = c .before .before .before .later in
     let w = c .before .litres-of in
     let g = c .before .before .if1 .left in
@@ -120,85 +149,101 @@ is-broken-requires c κs = search needs
 
 listed-requires-2 : tie.Need-listed-requires-2 Inv-loop μ-loop
 listed-requires-2 c κs =
-    let s = c .before .before .before .before .before .before .before .before .before .before .before .before .before .before .before .before .before .before .before in
+    let s = start (turn (c .before .before .before)) in
     (s .pre .0 .sites, s .pre .0 .range)
 
 same-length-2 : tie.Need-same-length-2 Inv-loop μ-loop
 same-length-2 c =
-    let s = c .before .before .before .before .before .before .before .before .before .before .before .before .before .before .before .before .before .before .before .before in
-    let h = c .before .before .before .before .before .before .before .before .before .before .before .before .before .before .loop .inv .2 in
+    let t = turn (broken c) in
+    let s = start t in
+    let h = t .before .loop .inv .2 in
     omega (arith, h .wide, s .pre .3)
 
 returns-2 : tie.Need-returns-2 Inv-loop μ-loop
 returns-2 c =
-    let s = c .before .before .before .before .before .before .before .before .before .before .before .before .before .before .before .before .before .before .before .before in
-    let l = c .before .before .before .before .before .before .before .before .before .before .before .before .before .before .loop in
-    let here = c .before .before .before .before .before .before .before .before .before .before .before .before .before .loop-test .taken in
-    let k = c .before .before .before .before .before .before .later in
-    let w = c .before .before .before .before .litres-of in
+    let m = broken c in
+    let t = turn m in
+    let s = start t in
+    let l = t .before .loop in
+    let here = t .loop-test .taken in
+    let k = m .before .before .later in
+    let w = m .litres-of in
     (c .listed2 .ensures, pass-broken _ _ _ _ _ refl (broken-here _ _ _ _ (s .pre .1) (l .i) here (k .result) (k .ensures) (w .result) (w .ensures) _ (c .before .before .is-broken .ensures) (c .before .if2 .taken)))
 
 name-requires : tie.Need-name-requires Inv-loop μ-loop
 name-requires c κs =
-    let s = c .before .before .before .before .before .before .before .before .before .before .before .before .before .before .before .before .before .before .before in
-    let l = c .before .before .before .before .before .before .before .before .before .before .before .before .before .loop in
-    let here = c .before .before .before .before .before .before .before .before .before .before .before .before .loop-test .taken in
+    let t = turn (c .before .before .before) in
+    let s = start t in
+    let l = t .before .loop in
+    let here = t .loop-test .taken in
     let list = s .args .t1 in
     site-small list (wide s) (s .pre .0 .sites) (s .pre .0 .range) (l .i) here
 
 mul-litres : tie.Need-mul-litres Inv-loop μ-loop
 mul-litres c =
-    let s = c .before .before .before .before .before .before .before .before .before .before .before .before .before .before .before .before .before .before .before .before in
-    let h = c .before .before .before .before .before .before .before .before .before .before .before .before .before .before .loop .inv .2 in
-    let g = c .before .before .before .before .before .if1 .left in
+    let m = sound c in
+    let t = turn m in
+    let s = start t in
+    let h = t .before .loop .inv .2 in
+    let g = m .before .if1 .left in
     omega (arith, g, s .pre .0 .groups, h .litres-is .wide)
 
 array-read-litres : tie.Need-array-read-litres Inv-loop μ-loop
 array-read-litres c =
-    let s = c .before .before .before .before .before .before .before .before .before .before .before .before .before .before .before .before .before .before .before .before in
-    let h = c .before .before .before .before .before .before .before .before .before .before .before .before .before .before .loop .inv .2 in
-    let g = c .before .before .before .before .before .if1 .left in
+    let m = sound c in
+    let t = turn m in
+    let s = start t in
+    let h = t .before .loop .inv .2 in
+    let g = m .before .if1 .left in
     omega (arith, g, s .pre .0 .groups, h .litres-is .wide)
 
 add-litres : tie.Need-add-litres Inv-loop μ-loop
 add-litres c =
-    let s = c .before .before .before .before .before .before .before .before .before .before .before .before .before .before .before .before .before .before .before .before in
-    let h = c .before .before .before .before .before .before .before .before .before .before .before .before .before .before .loop .inv .2 in
-    let k = c .before .before .before .before .before .before .later in
-    let w = c .before .before .before .before .litres-of in
-    let g = c .before .before .before .before .before .if1 .left in
-    let m : k .result < 64 = omega (arith, g, s .pre .0 .groups) in
-    omega (arith, h .litres-is .low _ m, w .ensures .1, s .pre .0 .sites)
+    let m = sound c in
+    let t = turn m in
+    let s = start t in
+    let h = t .before .loop .inv .2 in
+    let k = m .before .before .later in
+    let w = m .litres-of in
+    let g = m .before .if1 .left in
+    let low : k .result < 64 = omega (arith, g, s .pre .0 .groups) in
+    omega (arith, h .litres-is .low _ low, w .ensures .1, s .pre .0 .sites)
 
 mul-litres-2 : tie.Need-mul-litres-2 Inv-loop μ-loop
 mul-litres-2 c =
-    let s = c .before .before .before .before .before .before .before .before .before .before .before .before .before .before .before .before .before .before .before .before in
-    let h = c .before .before .before .before .before .before .before .before .before .before .before .before .before .before .loop .inv .2 in
-    let g = c .before .before .before .before .before .if1 .left in
+    let m = sound c in
+    let t = turn m in
+    let s = start t in
+    let h = t .before .loop .inv .2 in
+    let g = m .before .if1 .left in
     omega (arith, g, s .pre .0 .groups, h .litres-is .wide)
 
 array-write-litres : tie.Need-array-write-litres Inv-loop μ-loop
 array-write-litres c =
-    let s = c .before .before .before .before .before .before .before .before .before .before .before .before .before .before .before .before .before .before .before .before in
-    let h = c .before .before .before .before .before .before .before .before .before .before .before .before .before .before .loop .inv .2 in
-    let g = c .before .before .before .before .before .if1 .left in
+    let m = sound c in
+    let t = turn m in
+    let s = start t in
+    let h = t .before .loop .inv .2 in
+    let g = m .before .if1 .left in
     omega (arith, g, s .pre .0 .groups, h .litres-is .wide)
 
 mul-wholes : tie.Need-mul-wholes Inv-loop μ-loop
 mul-wholes c =
-    let s = c .before .before .before .before .before .before .before .before .before .before .before .before .before .before .before .before .before .before .before .before in
-    let h = c .before .before .before .before .before .before .before .before .before .before .before .before .before .before .loop .inv .2 in
+    let t = turn (sound c) in
+    let s = start t in
+    let h = t .before .loop .inv .2 in
     omega (arith, s .pre .0 .sites, h .wide)
 
 slice-write-wholes : tie.Need-slice-write-wholes Inv-loop μ-loop
 slice-write-wholes c =
-    let s = c .before .before .before .before .before .before .before .before .before .before .before .before .before .before .before .before .before .before .before .before in
-    let h = c .before .before .before .before .before .before .before .before .before .before .before .before .before .before .loop .inv .2 in
+    let t = turn (sound c) in
+    let s = start t in
+    let h = t .before .loop .inv .2 in
     omega (arith, s .pre .0 .sites, h .wide)
 
 add-i : tie.Need-add-i Inv-loop μ-loop
 add-i c =
-    let s = c .before .before .before .before .before .before .before .before .before .before .before .before .before .before .before .before .before .before .before .before in
+    let s = start (turn (sound c)) in
     omega (arith, s .pre .0 .sites)
 
 loop-less : tie.Need-loop-less Inv-loop μ-loop
@@ -206,12 +251,14 @@ loop-less c = search needs
 
 loop-again : tie.Need-loop-again Inv-loop μ-loop
 loop-again c =
-    let s = c .before .before .before .before .before .before .before .before .before .before .before .before .before .before .before .before .before .before .before .before in
-    let l = c .before .before .before .before .before .before .before .before .before .before .before .before .before .before .loop in
-    let here = c .before .before .before .before .before .before .before .before .before .before .before .before .before .loop-test .taken in
-    let k = c .before .before .before .before .before .before .later in
-    let w = c .before .before .before .before .litres-of in
-    let g = c .before .before .before .before .before .if1 .left in
+    let m = sound c in
+    let t = turn m in
+    let s = start t in
+    let l = t .before .loop in
+    let here = t .loop-test .taken in
+    let k = m .before .before .later in
+    let w = m .litres-of in
+    let g = m .before .if1 .left in
     let list = s .args .t1 in (
       search needs,
       c .name .ensures ∙ named-more (list .sites) (l .i) _ (l .inv .1),

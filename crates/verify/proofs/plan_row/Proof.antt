@@ -17,26 +17,42 @@ use Rattle.verify.proofs.plan_row.Tie as tie
 many : (s : tie.Start) → length (s .args .plan .shares) ≡ 512
 many s = search needs
 
+-- places on the way: the beginning, where rows 12 to 14 were tried, and where they had passed before row 15 and before row 16 was asked
+abbrev start : tie.After-try-form → tie.Start
+start t = t .before .before .before .before .before .before
+
+abbrev tried : tie.After-enum-told → tie.After-try-form
+tried t = t .before .before .before
+
+abbrev summed : tie.After-loads-uneven → tie.After-loads
+summed p = p .before .before .before .before
+
+abbrev passed : tie.After-loads-uneven → tie.After-enum-told
+passed p = summed p .before .before .before .before .before .before
+
+abbrev levelled : tie.After-groups-rise → tie.After-loads-uneven
+levelled p = p .before .before .before .before
+
 -- rows 12 to 14 do not refuse the plan
-form : (p : tie.After-enum-told) → let s = p .before .before .before .before .before .before .before .before .before in verdict (firstRow (take 3 (planRows (net (s .args .list)) (groupsIn (s .args .list) (s .args .plan)) (sharesIn (s .args .list) (s .args .plan))))) ≡ Passes
-form p = sym (p .before .before .before .try-form .ensures .verdict-is) ∙ p .enum-told .given .1
+form : (t : tie.After-enum-told) → let s = start (tried t) in verdict (firstRow (take 3 (planRows (net (s .args .list)) (groupsIn (s .args .list) (s .args .plan)) (sharesIn (s .args .list) (s .args .plan))))) ≡ Passes
+form t = sym (tried t .try-form .ensures .verdict-is) ∙ t .enum-told .given .1
 
 -- row 15 is asked
-uneven : (p : tie.After-loads-uneven) → let s = p .before .before .before .before .before .before .before .before .before .before .before .before .before .before .before .before .before .before .before in p .loads-uneven .result ≡ loadsUneven (net (s .args .list)) (groupsIn (s .args .list) (s .args .plan)) (sharesIn (s .args .list) (s .args .plan))
+uneven : (p : tie.After-loads-uneven) → let s = start (tried (passed p)) in p .loads-uneven .result ≡ loadsUneven (net (s .args .list)) (groupsIn (s .args .list) (s .args .plan)) (sharesIn (s .args .list) (s .args .plan))
 uneven p =
-    let s = p .before .before .before .before .before .before .before .before .before .before .before .before .before .before .before .before .before .before .before in
-    let f = p .before .before .before .before .before .before .before .before .before .before .before .before .before .try-form in
-    let told = p .before .before .before .before .before .before .before .before .before .before .enum-told .given .1 in
-    let w = p .before .before .before .before .loads in
-    p .loads-uneven .ensures (s .args .list) (s .args .plan) (kept-levels {plan = s .args .plan} (f .ensures .passed told) (many s) (w .result) (w .ensures))
+    let t = passed p in
+    let f = tried t .try-form in
+    let s = start (tried t) in
+    let w = summed p .loads in
+    p .loads-uneven .ensures (s .args .list) (s .args .plan) (kept-levels {plan = s .args .plan} (f .ensures .passed (t .enum-told .given .1)) (many s) (w .result) (w .ensures))
 
 -- row 16 is asked
-rises : (p : tie.After-groups-rise) → let s = p .before .before .before .before .before .before .before .before .before .before .before .before .before .before .before .before .before .before .before .before .before .before .before in p .groups-rise .result ≡ groupsRise (net (s .args .list)) (groupsIn (s .args .list) (s .args .plan))
+rises : (p : tie.After-groups-rise) → let s = start (tried (passed (levelled p))) in p .groups-rise .result ≡ groupsRise (net (s .args .list)) (groupsIn (s .args .list) (s .args .plan))
 rises p =
-    let s = p .before .before .before .before .before .before .before .before .before .before .before .before .before .before .before .before .before .before .before .before .before .before .before in
-    let f = p .before .before .before .before .before .before .before .before .before .before .before .before .before .before .before .before .before .try-form in
-    let told = p .before .before .before .before .before .before .before .before .before .before .before .before .before .before .enum-told .given .1 in
-    let k = f .ensures .passed told in
+    let t = passed (levelled p) in
+    let f = tried t .try-form in
+    let s = start (tried t) in
+    let k = f .ensures .passed (t .enum-told .given .1) in
     let gs = groupsIn (s .args .list) (s .args .plan) in
     p .groups-rise .ensures (net (s .args .list)) gs (groups-count (s .args .list) (s .args .plan) (k .ready)) (λ i l. k .litres .1 .is gs (k .tables .place) i (omega (arith, s .pre .groups))) (k .tables .size)
 
@@ -60,7 +76,8 @@ enum-known-verdict c = search needs
 
 returns : tie.Need-returns
 returns c =
-    let f = c .before .before .before .before .try-form in
+    let q = c .before .before .before in
+    let f = q .before .try-form in
     sym (form-refused _ _ _ _ (sym (f .ensures .verdict-is) ∙ c .before .verdict .given .1))
 
 enum-told : tie.Need-enum-told
@@ -74,9 +91,11 @@ slice-aggregate-loads-2 c = search needs
 
 loads-requires : tie.Need-loads-requires
 loads-requires c κs =
-    let s = c .before .before .before .before .before .before .before .before .before .before .before .before .before .before in
-    let f = c .before .before .before .before .before .before .before .before .try-form in
-    let told = c .before .before .before .before .before .enum-told .given .1 in
+    let q = c .before .before .before in
+    let t = q .before .before in
+    let s = start (tried t) in
+    let f = tried t .try-form in
+    let told = t .enum-told .given .1 in
     let k = f .ensures .passed told in
     (λ d l. omega (arith, getD-replicate {A = ℕ} 64 d 0 0 l), kept-parts {plan = s .args .plan} k (many s))
 
@@ -91,51 +110,58 @@ slice-aggregate-loads-uneven-3 c = search needs
 
 loads-uneven-requires : tie.Need-loads-uneven-requires
 loads-uneven-requires c κs =
-    let s = c .before .before .before .before .before .before .before .before .before .before .before .before .before .before .before .before .before .before in
-    let f = c .before .before .before .before .before .before .before .before .before .before .before .before .try-form in
-    let told = c .before .before .before .before .before .before .before .before .before .enum-told .given .1 in
+    let w = c .before .before .before in
+    let q = w .before .before .before in
+    let t = q .before .before .before in
+    let s = start (tried t) in
+    let f = tried t .try-form in
+    let told = t .enum-told .given .1 in
     let k = f .ensures .passed told in
-    let sums : length (c .before .before .before .loads .result) ≡ 64 = search needs in
+    let sums : length (w .loads .result) ≡ 64 = search needs in
     ((k .tables .length-places, k .litres .0, sums), λ d l h. listed-place (s .args .list) (s .args .plan) (k .ready) (f .result .places) (k .tables .place) (f .result .listed) d (k .listed) l h)
 
 returns-2 : tie.Need-returns-2
 returns-2 c =
-    let told = c .before .before .before .before .before .before .before .before .before .before .before in
-    row-15 _ _ _ (form told) (sym (uneven (c .before)) ∙ c .if1 .taken)
+    row-15 _ _ _ (form (passed (c .before))) (sym (uneven (c .before)) ∙ c .if1 .taken)
 
 slice-aggregate-groups-rise : tie.Need-slice-aggregate-groups-rise
 slice-aggregate-groups-rise c =
-    let f = c .before .before .before .before .before .before .before .before .before .before .before .before .before .before .before .try-form in
-    let told = c .before .before .before .before .before .before .before .before .before .before .before .before .enum-told .given .1 in
+    let t = passed (c .before .before) in
+    let f = tried t .try-form in
+    let told = t .enum-told .given .1 in
     let k = f .ensures .passed told in
     search (needs, k .litres .0)
 
 slice-aggregate-groups-rise-2 : tie.Need-slice-aggregate-groups-rise-2
 slice-aggregate-groups-rise-2 c =
-    let f = c .before .before .before .before .before .before .before .before .before .before .before .before .before .before .before .before .try-form in
-    let told = c .before .before .before .before .before .before .before .before .before .before .before .before .before .enum-told .given .1 in
+    let t = passed (c .before .before .before) in
+    let f = tried t .try-form in
+    let told = t .enum-told .given .1 in
     let k = f .ensures .passed told in
     search (needs, k .tables .length-sizes)
 
 groups-rise-requires : tie.Need-groups-rise-requires
 groups-rise-requires c κs =
-    let s = c .before .before .before .before .before .before .before .before .before .before .before .before .before .before .before .before .before .before .before .before .before .before in
-    let f = c .before .before .before .before .before .before .before .before .before .before .before .before .before .before .before .before .try-form in
-    let told = c .before .before .before .before .before .before .before .before .before .before .before .before .before .enum-told .given .1 in
+    let t = passed (c .before .before .before) in
+    let s = start (tried t) in
+    let f = tried t .try-form in
+    let told = t .enum-told .given .1 in
     let k = f .ensures .passed told in
     small (s .args .list) (s .args .plan) (k .ready) _ _ _ (k .tables) (k .litres .1) (k .litres .0)
 
 returns-3 : tie.Need-returns-3
 returns-3 c =
-    let told = c .before .before .before .before .before .before .before .before .before .before .before .before .before .before .before in
-    let tried = c .before .before .before .before in
-    row-16 _ _ _ (form told) (sym (uneven (tried .before)) ∙ tried .if1 .left) (sym (rises (c .before)) ∙ c .if2 .taken)
+    let rise = c .before in
+    let even = rise .before .before .before in
+    let p = levelled rise in
+    row-16 _ _ _ (form (passed p)) (sym (uneven p) ∙ even .if1 .left) (sym (rises rise) ∙ c .if2 .taken)
 
 returns-4 : tie.Need-returns-4
 returns-4 c =
-    let told = c .before .before .before .before .before .before .before .before .before .before .before .before .before .before .before in
-    let tried = c .before .before .before .before in
-    plan-passes _ _ _ (form told) (sym (uneven (tried .before)) ∙ tried .if1 .left) (sym (rises (c .before)) ∙ c .if2 .left)
+    let rise = c .before in
+    let even = rise .before .before .before in
+    let p = levelled rise in
+    plan-passes _ _ _ (form (passed p)) (sym (uneven p) ∙ even .if1 .left) (sym (rises rise) ∙ c .if2 .left)
 
 pub plan-row-spec : {M : Type 1} → statement M
 plan-row-spec =

@@ -38,9 +38,10 @@ slice-aggregate-add-up-2 c = search needs
 
 add-up-requires : tie.Need-add-up-requires
 add-up-requires c κs =
-    let s = c .before .before .before .before .before .before .before .before .before in
-    let at = c .before .before .before .before .places in
-    let q = c .before .before .before .sizes in
+    let size = c .before .before .before in
+    let s = size .before .before .before .before .before .before in
+    let at = size .before .places in
+    let q = size .sizes in
     let plan = lentPlan (s .args .count) (s .args .sets .now) (s .args .shares .now) in
     let p : length (at .result) ≡ 64 = search needs in
     let n : length (q .result) ≡ 64 = search needs in
@@ -54,11 +55,12 @@ same-length c = search needs
 
 returns : tie.Need-returns
 returns c =
-    let s = c .before .before .before .before .before .before .before .before .before .before .before .before .before .before in
-    let known = c .before .before .before .before .before .before .before .before .before .before .before .before .before in
-    let at = c .before .before .before .before .before .before .before .before .before .places in
-    let q = c .before .before .before .before .before .before .before .before .sizes in
     let t = c .before .before .before .before in
+    let size = t .before .before .before .before in
+    let known = size .before .before .before .before .before in
+    let s = known .before in
+    let at = size .before .places in
+    let q = size .sizes in
     let plan = lentPlan (s .args .count) (s .args .sets .now) (s .args .shares .now) in
     let wide : length (s .args .list .sites) ≡ 512 = simp length-map at (s .good .0 .1 .1 .1 .0 .1 .0 .1) in
     let p : length (at .result) ≡ 64 = search needs in
