@@ -5,8 +5,8 @@
  * bytes may stand anywhere: no alignment is asked of them. What a function writes must not overlap
  * anything else that it is given. The functions keep nothing between calls and allocate nothing; they call
  * memcpy and memset and no other function. They may be called from several threads at once. On one desk only
- * questions may (share, depot, difference, written): a load, a change or an added site that succeeds writes
- * store and table, a proposal that succeeds the store. What a function takes as const it has no right to
+ * questions may (share, depot, difference, written, at_least): a load, a change or an added site that succeeds
+ * writes store and table, a proposal that succeeds the store. What a function takes as const it has no right to
  * write: the proved function has it as a slice that is only read (&[u8]). A refused call leaves every byte as
  * it was; tests/c/read_only_t.c asks questions and has calls refused on pages that cannot be written.
  *
@@ -48,10 +48,10 @@
 #define SULGHETI_PLACE_BYTES 4
 
 /* The stack in bytes that suffices for sulgheti_check, for sulgheti_make, for sulgheti_fresh, for a question
- * (share, depot, difference, written), and for any other call of the desk (load, change, add, propose).
- * Measured at 512 sites and rounded up; the frames have fixed sizes, and nothing recurses. tests/c/stack_t.c
- * makes every call on so much and no more, and prints what each wrote. A thread with 128 KB of stack can make
- * every call. */
+ * (share, depot, difference, written, at_least), and for any other call of the desk (load, change, add,
+ * propose). Measured at 512 sites and rounded up; the frames have fixed sizes, and nothing recurses.
+ * tests/c/stack_t.c makes every call on so much and no more, and prints what each wrote. A thread with 128 KB of
+ * stack can make every call. */
 #define SULGHETI_STACK_CHECK 49152
 #define SULGHETI_STACK_MAKE 65536
 #define SULGHETI_STACK_FRESH 8192
@@ -120,6 +120,16 @@ int64_t sulgheti_difference(const uint8_t *store, size_t store_len, const uint8_
  * 0, 17, 20. */
 int64_t sulgheti_written(const uint8_t *store, size_t store_len, const uint8_t *table, size_t table_len,
                          uint8_t *buffer, size_t buffer_len);
+
+/* The listed depots whose W / q is at least so many litres (0 to 4,294,967,295), as a set, in which bit n stands
+ * for depot n: 0, or rows 0, 17. W is compared with litres x q, and nothing is divided; 0 litres give all listed
+ * depots. The groups held are read in order up to the first that is below so many litres, and the set is the
+ * union of those before it. On a desk that began fresh, was lent one table and was written by these functions
+ * alone, W / q falls from group to group, so that no later group reaches the litres asked for. In bytes that were
+ * written otherwise and that row 0 lets through it may rise: a later group that reaches them is then not in the
+ * set. */
+int64_t sulgheti_at_least(const uint8_t *store, size_t store_len, const uint8_t *table, size_t table_len,
+                          uint32_t litres, uint64_t *depots);
 
 #ifdef __cplusplus
 }

@@ -43,7 +43,7 @@ for name in engine desk; do
     [ "$needed" = "memcpy memset " ] || { echo "lib$name.a needs: $needed"; exit 1; }
 done
 exported=$(nm -g --defined-only "$SULGHETI_LIB/libengine.a" "$SULGHETI_LIB/libdesk.a" | awk 'NF == 3 { print $3 }' | sort)
-declared=$(sed -n 's/^int64_t \(sulgheti_[a-z]*\)(.*/\1/p' include/sulgheti.h | sort)
+declared=$(sed -n 's/^int64_t \(sulgheti_[a-z_]*\)(.*/\1/p' include/sulgheti.h | sort)
 [ "$exported" = "$declared" ] || { echo "exported: $exported"; echo "declared: $declared"; exit 1; }
 echo "libengine.a, libdesk.a: need memcpy and memset alone, export the $(echo "$declared" | wc -l) functions of the header"
 

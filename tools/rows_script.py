@@ -1,12 +1,12 @@
 #!/usr/bin/env python3
-"""Writes the console's script of calls and the answers that it must print, from document 01 alone.
+"""Writes the console's script of calls and the answers that it must print, from document 01 and request a of document 02 alone.
 
   rows_script.py DIR           writes DIR/stdin and DIR/stdout
   rows_script.py DIR PROGRAM   the same, with the answers of the part `make` taken from the program, and shows which of them differ from what is written here
 
 Lists and plans are written here, plans are made here (by counting over all sets, for lists of few depots), and each is held to the definition here before it is used; no code of the engine is called.
 The answer of a check is the row that the case is written for. It is compared with a plain reading of the table (`first_row`), and a difference stops the script.
-The answers of the desk's calls are those of `Book`, document 01's plain book: whether a proposal is true is counted over all sets, and held to the rows.
+The answers of the desk's calls are those of `Book`, document 01's plain book with the question of request a: whether a proposal is true is counted over all sets, and held to the rows.
 """
 import subprocess
 import sys
@@ -300,6 +300,13 @@ class Book:
             return "refused 17"
         x, y = self.figures(a), self.figures(b)
         return f"difference {x[0] * y[1] - y[0] * x[1]} {x[1] * y[1]}" if x and y else "refused 19"
+
+    def atleast(self, mark):
+        """Document 02, a: the depots whose W/q is at least the mark, by the definition on the list alone; as eight bytes, bit n for depot n."""
+        if self.plan is None:
+            return "refused 17"
+        reached = [d for d in listed(self.sites) if self.figures(d)[0] >= mark * self.figures(d)[1]]
+        return "set " + text(group(reached)[2:])
 
     def written(self, length):
         whole = b"\xA5" * length
@@ -687,14 +694,23 @@ def held(sites, plan):
     ask("propose", plan, answer="done")
 
 
+def marks():
+    """Marks in litres: 0, at each group's W/q, rounded down and up, one below and one above it, and the largest."""
+    groups = definition(book.sites)
+    at = [x for g, w in zip(groups, totals(book.sites, groups)) for x in (w // len(g), -(-w // len(g)))]
+    return sorted({0, 2 ** 32 - 1} | {max(0, x + y) for x in at for y in (-1, 0, 1)})
+
+
 def ask_all(depots):
-    """Every question: each site, each depot, each pair, the plan written out."""
+    """Every question: each site, each depot, each pair, marks, the plan written out."""
     for i in range(len(book.sites) + 1):
         ask("share", i)
     for a in range(depots):
         ask("depot", a)
         for b in range(depots):
             ask("difference", a, b)
+    for mark in marks():
+        ask("atleast", mark)
     ask("written", 5 + 10 * depots + 6 * len(book.sites))
 
 
@@ -703,6 +719,8 @@ def part_desk_examples():
     ask("share", 0, words="row 17: fresh desk, share of site 0", answer="refused 17")
     ask("depot", 0, answer="refused 17")
     ask("difference", 0, 0, answer="refused 17")
+    ask("atleast", 0, answer="refused 17")
+    ask("atleast", 2 ** 32 - 1, answer="refused 17")
     ask("written", 4, answer="refused 17 A5A5A5A5")
     ask("written", 0, answer="refused 17 -")
     held([(0, 1, 10)], TP)
@@ -710,6 +728,8 @@ def part_desk_examples():
     ask("depot", 0, answer="depot 10 2")
     ask("depot", 1, answer="depot 10 2")
     ask("difference", 0, 1, answer="difference 0 4")
+    ask("atleast", 5, words="at least 5 litres: both bring 10/2", answer="set 0300000000000000")
+    ask("atleast", 6, words="at least 6: none", answer="set 0000000000000000")
     ask("share", 1, words="row 18: T's plan held, site 1", answer="refused 18")
     ask("depot", 2, words="row 19: T's plan held, depot 2", answer="refused 19")
     ask("written", 20, words="row 20: T's plan into 20 bytes", answer="refused 20 " + "A5" * 20)
@@ -762,6 +782,7 @@ def part_desk_plans():
         ask("share", 7, answer="refused 17")
         ask("depot", 9, answer="refused 17")
         ask("difference", 9, 9, answer="refused 17")
+        ask("atleast", 0, answer="refused 17")
         ask("written", 3, answer="refused 17 A5A5A5")
         ask("propose", TP)
     say("A plan of the list before is not true of the new one; the new one's is.")
@@ -794,6 +815,8 @@ def part_desk_plans():
     ask("share", 0, answer="refused 18")
     ask("depot", 0, answer="refused 19")
     ask("difference", 0, 0, answer="refused 19")
+    ask("atleast", 0, answer="set " + "00" * 8)
+    ask("atleast", 2 ** 32 - 1, answer="set " + "00" * 8)
     ask("written", 4, answer="refused 20 A5A5A5A5")
     ask("written", 6, answer="length 5 504C000000A5")
     ask("add", 63, 63, 1, answer="done")
@@ -816,9 +839,76 @@ def part_desk_plans():
     ask("difference", 2, 1, answer="difference -1 2")
 
 
+def at_least(mark, *depots):
+    """The question for a mark, and the depots that it must give."""
+    ask("atleast", mark, answer="set " + text(group(depots)[2:]))
+
+
+def part_desk_marks():
+    say("The depots at or over a mark. T: 10/2 each. A mark is not cut to 16 or to 31 bits, nor is its product with q cut to 32.")
+    held([(0, 1, 10)], TP)
+    for mark in (0, 1, 4, 5):
+        at_least(mark, 0, 1)
+    for mark in (6, 10, 65535, 65536, 65536 + 5, 2 ** 31 - 1, 2 ** 31, 2 ** 31 + 5, 2 ** 32 - 1):
+        at_least(mark)
+    say("W/q is not rounded up: 11/2 reaches 5 and not 6. With a second group of 5, both reach 5.")
+    held([own(0, 5), (0, 1, 6)], make_plan([{0, 1}], [10, 1]))
+    at_least(5, 0, 1)
+    at_least(6)
+    held([own(0, 5), (0, 1, 6), own(2, 5)], make_plan([{0, 1}, {2}], [10, 1, 5]))
+    at_least(4, 0, 1, 2)
+    at_least(5, 0, 1, 2)
+    at_least(6)
+    say("The nine sites: 8/5 and 1. Two groups: 9/2 and 1.")
+    held(NINE, make_plan([{0, 1, 2, 3, 4}, {5}], shares_of(NINE, definition(NINE))))
+    at_least(1, 0, 1, 2, 3, 4, 5)
+    at_least(2)
+    held(NINE_ONE, make_plan([{0, 1}, {2}], [9, 0]))
+    at_least(0, 0, 1, 2)
+    at_least(1, 0, 1, 2)
+    at_least(2, 0, 1)
+    at_least(4, 0, 1)
+    at_least(5)
+    ask("propose", TP, words="refused calls keep the plan", answer="refused 9")
+    ask("load", b"", answer="refused 1")
+    at_least(2, 0, 1)
+    ask("change", 1, 1, words="the same litres: the plan is dropped", answer="done")
+    ask("atleast", 2, answer="refused 17")
+    ask("atleast", 0, answer="refused 17")
+    ask("propose", make_plan([{0, 1}, {2}], [9, 0]), answer="done")
+    at_least(2, 0, 1)
+    ask("add", 2, 2, 8, words="depot 2 becomes the heaviest, with 8; then 0 and 1 with 10/2", answer="done")
+    ask("atleast", 2, answer="refused 17")
+    ask("propose", make_plan([{2}, {0, 1}], shares_of(book.sites, [{2}, {0, 1}])), answer="done")
+    at_least(5, 0, 1, 2)
+    at_least(6, 2)
+    at_least(8, 2)
+    at_least(9)
+    say("Depots 61 to 63, the highest bits.")
+    high = [(62, 63, 65535), (63, 61, 65535), own(61, 1)]
+    held(high, make_plan(definition(high), shares_of(high, definition(high))))
+    for mark in marks():
+        ask("atleast", mark)
+    say("64 groups, each depot by itself and each 1,000 litres below the one before: at its litres, one above, one below.")
+    steps = [own(37 * k % 64, 64000 - 1000 * k) for k in range(64)]
+    counted[tuple(steps)] = [{a} for a, _, _ in steps]  # own sites alone, no two with equal litres: the next group is the heaviest depot left
+    held(steps, make_plan(definition(steps), [w for _, _, w in steps]))
+    at_least(0, *range(64))
+    at_least(1, *range(64))
+    for k, (a, _, w) in enumerate(steps):
+        before = [d for d, _, _ in steps[:k]]
+        at_least(w + 1, *before)
+        at_least(w, *before, a)
+    for k in (0, 1, 31, 32, 62, 63):
+        at_least(steps[k][2] - 1, *(d for d, _, _ in steps[:k + 1]))
+        at_least(steps[k][2] + 65536)
+    at_least(2 ** 32 - 1)
+
+
 def part_desk_tables():
     say("Tables of few and of many places.")
     table(0)
+    ask("atleast", 0, answer="refused 17")
     ask("load", T, answer="refused 2")
     ask("load", make_list([], count=1), words="row 2 before row 3", answer="refused 2")
     ask("add", 0, 1, 10, answer="refused 2")
@@ -826,9 +916,12 @@ def part_desk_tables():
     ask("load", make_list([]), answer="done")
     ask("propose", make_plan([], []), answer="done")
     ask("add", 0, 1, 10, answer="refused 2")
+    at_least(0)
+    at_least(1)
     ask("written", 5, answer="length 5 504C000000")
     table(1)
     ask("written", 5, words="a fresh desk again", answer="refused 17")
+    ask("atleast", 1, answer="refused 17")
     ask("load", make_list(FOURS), answer="refused 2")
     ask("add", 0, 1, 10, answer="done")
     ask("add", 0, 1, 10, answer="refused 2")
@@ -857,6 +950,10 @@ def part_desk_tables():
         ask("depot", 63, answer="depot 33553920 64")
         ask("depot", 64, answer="refused 19")
         ask("difference", 0, 63, answer="difference 0 4096")
+        for mark in (0, 65536, 524279, 524280):
+            at_least(mark, *range(64))
+        for mark in (524281, 2 ** 26, 2 ** 26 + 1, 2 ** 31, 2 ** 32 - 1):
+            at_least(mark)
         ask("written", 3086, answer="refused 20")
         ask("written", 3087, answer="length 3087 " + text(large))
         ask("propose", large[:-1] + b"\1", answer="refused 14")
@@ -869,6 +966,10 @@ def part_desk_tables():
     ask("propose", make_plan([{0}, {1}], [65535] * 510 + [1]), answer="done")
     ask("difference", 0, 1, answer="difference 33422849 1")
     ask("difference", 1, 0, answer="difference -33422849 1")
+    at_least(1, 0, 1)
+    at_least(2, 0)
+    at_least(33422850, 0)
+    at_least(33422851)
 
 
 def part_desk_lines():
@@ -879,11 +980,16 @@ def part_desk_lines():
                  "change 0", "change 0 65536", "change 0 70000", "change 18446744073709551616 1", "change -1 1", "change 0 1 1", "change - 1",
                  "add 0 1", "add 256 1 1", "add 0 256 1", "add 0 1 65536", "add 0 1 1 1", "add 0 1 70000", "add", "propose", f"propose {text(TP)} {text(TP)}", "propose 5",
                  "share", "share 18446744073709551616", "share 99999999999999999999999", "share 0 0", "share A", "depot", "depot 256", "depot 300", "depot 0 1",
-                 "difference", "difference 0", "difference 0 256", "difference 256 0", "difference 0 1 2", "written", "written 8193", "written -", "written 1 1", "fresh", "Load -"):
+                 "difference", "difference 0", "difference 0 256", "difference 256 0", "difference 0 1 2", "written", "written 8193", "written -", "written 1 1", "fresh", "Load -",
+                 "atleast", "atleast 4294967296", "atleast 4294967301", "atleast 18446744073709551616", "atleast 18446744073709551621", "atleast 99999999999999999999999",
+                 "atleast 5 5", "atleast -1", "atleast +5", "atleast 0x5", "atleast A", "atleast 5.0", "atleast 4,999", "atleast -", "atLeast 5", "ATLEAST 5", "at_least 5", "at least 5", "atleast5"):
         lines.append(line)
         answers.append("bad line")
     ask("share", 0, answer="share 10 20")
     raw("zeros in front", "share 000000000000000000000000", "share 10 20")
+    raw("the same", "atleast 000000000000000000000005", "set 0300000000000000")
+    raw("the largest mark, with zeros in front", "atleast 00000000004294967295", "set 0000000000000000")
+    raw("spaces around a mark", "  atleast   6 ", "set 0000000000000000")
     raw("the largest site number", f"change {2 ** 64 - 1} 1", "refused 18")
     raw("spaces", f"  written   21  ", "length 21 " + text(TP))
     long = "propose " + text(TP)
@@ -936,7 +1042,7 @@ def part_histories():
         table((3, 5, 8, 512, 600)[draw(5)])
         plans = [make_plan([], [])]
         for _ in range(30 + draw(31)):
-            kind, n = draw(20), len(book.sites)
+            kind, n = draw(22), len(book.sites)
             if kind < 1:
                 ask("load", make_list([(draw(depots), draw(depots), 1 + draw(most)) for _ in range(draw(6))]))
             elif kind < 2:
@@ -960,8 +1066,11 @@ def part_histories():
                 ask("depot", draw(depots + 1))
             elif kind < 19:
                 ask("difference", draw(depots), draw(depots))
-            else:
+            elif kind < 20:
                 ask("written", draw(2) * 60 + draw(60))
+            else:
+                near = marks()
+                ask("atleast", near[draw(len(near))] if draw(8) else draw(2) * 65536 + draw(most + 1))
         if k % 4 and book.sites:
             groups = definition(book.sites)
             ask("propose", make_plan(groups, turned(book.sites, groups)), answer="done")
@@ -1025,6 +1134,7 @@ def main():
     part_desk_examples()
     part_desk_rows()
     part_desk_plans()
+    part_desk_marks()
     part_desk_tables()
     part_desk_lines()
     part_histories()

@@ -280,6 +280,33 @@ fn try_difference(store: &[u8], table: &[u8], a: u8, b: u8) -> Result<(i64, u64)
 }
 
 #[inline(never)]
+pub fn at_least(store: &[u8], table: &[u8], mark: u32, depots: &mut u64) -> i64 {
+    code(try_at_least(store, table, mark).map(|set| {
+        *depots = set;
+        0
+    }))
+}
+
+/// One pass over the sites for the W of all groups, and one over the groups up to the first below the mark.
+fn try_at_least(store: &[u8], table: &[u8], mark: u32) -> Result<u64, i64> {
+    let held = held(sized(store)?, table)?;
+    let plan = held.plan.ok_or(-17)?;
+    let mut litres = [0u64; 64];
+    for &site in held.sites {
+        litres[usize::from(plan.carrier(site) & 63)] += u64::from(half(&site, 2));
+    }
+    let mut depots = 0;
+    for (r, w) in plan.groups.iter().zip(litres) {
+        let set = u64::from_le_bytes(*r);
+        if w < u64::from(mark) * u64::from(set.count_ones()) {
+            break;
+        }
+        depots |= set;
+    }
+    Ok(depots)
+}
+
+#[inline(never)]
 pub fn written(store: &[u8], table: &[u8], buffer: &mut [u8]) -> i64 {
     code(try_written(store, table, buffer))
 }

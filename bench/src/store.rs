@@ -36,6 +36,7 @@ enum Call {
     Depot(u8),
     Difference(u8, u8),
     Written(usize),
+    AtLeast(u32),
 }
 
 /// What a call writes beside store and table.
@@ -74,6 +75,7 @@ fn by_engine(call: &Call, desk: &mut Desk, out: &mut Out) -> i64 {
                 let buffer = &mut out.buffer[..*length];
                 ffi::sulgheti_written(store, n, table, m, buffer.as_mut_ptr(), buffer.len())
             }
+            Call::AtLeast(mark) => ffi::sulgheti_at_least(store, n, table, m, *mark, one),
         }
     }
 }
@@ -91,6 +93,7 @@ fn by_hand(call: &Call, desk: &mut Desk, out: &mut Out) -> i64 {
         Call::Depot(depot) => hand_store::depot(store, table, *depot, one, two),
         Call::Difference(a, b) => hand_store::difference(store, table, *a, *b, &mut out.difference, one),
         Call::Written(length) => hand_store::written(store, table, &mut out.buffer[..*length]),
+        Call::AtLeast(mark) => hand_store::at_least(store, table, *mark, one),
     }
 }
 
@@ -147,6 +150,12 @@ fn lines(input: &Input) -> Vec<Line> {
     let depots = members(list[4..].chunks(6).fold(0, |set, r| set | 1 << r[2] | 1 << r[3]));
     let site = |i: usize| i * input.sites / DESKS;
     let depot = |i: usize| depots[i * depots.len() / DESKS] as u8;
+    // W/q of a depot, rounded down: its group and all before it are read
+    let mark = |i: usize| {
+        let (mut litres, mut size) = (0, 0);
+        assert_eq!(hand_store::depot(&full.store, &full.table, depot(i), &mut litres, &mut size), 0);
+        (litres / size) as u32
+    };
     let line = |name, desk: &Desk, stays, call: &dyn Fn(usize) -> Call| Line {
         name,
         desk: desk.clone(),
@@ -164,6 +173,7 @@ fn lines(input: &Input) -> Vec<Line> {
         line("depot", &full, true, &|i| Call::Depot(depot(i))),
         line("difference", &full, true, &|i| Call::Difference(depot(i), depot(DESKS - 1 - i))),
         line("written", &full, true, &|_| Call::Written(PLAN_MAX)),
+        line("at_least", &full, true, &|i| Call::AtLeast(mark(i))),
     ]
 }
 
@@ -347,8 +357,22 @@ fn random_call(rng: &mut Rng, base: &Base) -> Call {
         _ => *rng.pick(&named) as u8,
     };
     let litres = |rng: &mut Rng| *rng.pick(&[0, 1, 2, 7, 100, 65_535]);
+    // around the W/q of a group, or anywhere
+    let mark = |rng: &mut Rng| {
+        let groups = &base.plan.groups;
+        if groups.is_empty() || rng.percent(20) {
+            let any = rng.word() as u32;
+            return *rng.pick(&[0, 1, 65_535, 65_536, u32::MAX, any]);
+        }
+        let k = rng.below(groups.len());
+        let place = |depot: u8| groups.iter().position(|g| g >> depot & 1 == 1);
+        let carried = base.sites.iter().filter(|s| place(s.first).max(place(s.second)) == Some(k));
+        let w: u32 = carried.map(|s| u32::from(s.litres)).sum();
+        let q = groups[k].count_ones();
+        *rng.pick(&[w / q, w.div_ceil(q), (w / q).saturating_sub(1), w / q + 1, 65_536 + w / q])
+    };
     let (mut list, mut plan) = (list_bytes(&base.sites), plan_bytes(&base.plan));
-    match rng.below(12) {
+    match rng.below(14) {
         0 if rng.percent(20) => Call::Fresh,
         0 | 1 => {
             if rng.percent(70) {
@@ -378,6 +402,7 @@ fn random_call(rng: &mut Rng, base: &Base) -> Call {
         7 => Call::Share(if rng.percent(3) { rng.word() as usize } else { rng.below(near) }),
         8 => Call::Depot(depot(rng)),
         9 | 10 => Call::Difference(depot(rng), depot(rng)),
+        11 | 12 => Call::AtLeast(mark(rng)),
         _ => Call::Written((plan.len() + rng.below(4)).saturating_sub(2).min(PLAN_MAX)),
     }
 }

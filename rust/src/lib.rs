@@ -18,6 +18,9 @@
 //! assert_eq!(desk.depot(0), Err(sulgheti::Row(17)));
 //! desk.propose(&out[..n]).unwrap();
 //! assert_eq!(desk.depot(0), Ok((10, 2)));
+//! // Who brings at least 5 litres, and who 6: bit n of the set stands for depot n.
+//! assert_eq!(desk.at_least(5), Ok(0b11));
+//! assert_eq!(desk.at_least(6), Ok(0));
 //! // Questions change nothing: threads may ask one desk at once.
 //! std::thread::scope(|threads| {
 //!     threads.spawn(|| assert_eq!(desk.share(0), Ok((10, 20))));
@@ -125,6 +128,14 @@ pub mod ffi {
             table_len: usize,
             buffer: *mut u8,
             buffer_len: usize,
+        ) -> i64;
+        pub fn sulgheti_at_least(
+            store: *const u8,
+            store_len: usize,
+            table: *const u8,
+            table_len: usize,
+            litres: u32,
+            depots: *mut u64,
         ) -> i64;
     }
 }
@@ -246,6 +257,17 @@ impl Desk {
         let (store, n, table, m) = self.parts();
         // SAFETY: as above.
         taken(unsafe { ffi::sulgheti_written(store, n, table, m, buffer.as_mut_ptr(), buffer.len()) })
+    }
+
+    /// The listed depots whose W/q is at least so many litres (W at least litres x q), as a set: bit n stands for depot
+    /// n. 0 litres give all listed depots. Refused by rows 0 and 17. On foreign bytes whose groups do not fall: the depots
+    /// of the groups before the first below the mark.
+    pub fn at_least(&self, litres: u32) -> Result<u64, Row> {
+        let (store, n, table, m) = self.parts();
+        let mut depots = 0;
+        // SAFETY: as above.
+        taken(unsafe { ffi::sulgheti_at_least(store, n, table, m, litres, &mut depots) })?;
+        Ok(depots)
     }
 }
 

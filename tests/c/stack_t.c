@@ -21,6 +21,7 @@ static uint8_t *const plan = (uint8_t *)rooms[3] + 1, *const out = (uint8_t *)ro
 static size_t store_len = SULGHETI_STORE_BYTES, table_len = 512 * SULGHETI_PLACE_BYTES, out_len = SULGHETI_PLAN_MAX, list_len, plan_len, site;
 static uint8_t first, second;
 static uint16_t litres;
+static uint32_t mark;
 static uint64_t x, y;
 static int64_t d;
 
@@ -36,8 +37,9 @@ static int64_t share(void) { return sulgheti_share(DESK, site, &x, &y); }
 static int64_t depot(void) { return sulgheti_depot(DESK, first, &x, &y); }
 static int64_t difference(void) { return sulgheti_difference(DESK, first, second, &d, &y); }
 static int64_t written(void) { return sulgheti_written(DESK, out, out_len); }
+static int64_t at_least(void) { return sulgheti_at_least(DESK, mark, &x); }
 
-enum { CHECK, MAKE, FRESH, LOAD, CHANGE, ADD, PROPOSE, SHARE, DEPOT, DIFFERENCE, WRITTEN, CALLS };
+enum { CHECK, MAKE, FRESH, LOAD, CHANGE, ADD, PROPOSE, SHARE, DEPOT, DIFFERENCE, WRITTEN, AT_LEAST, CALLS };
 static struct {
     const char *name;
     int64_t (*call)(void);
@@ -47,6 +49,7 @@ static struct {
     {"load", load, SULGHETI_STACK_DESK, 0}, {"change", change, SULGHETI_STACK_DESK, 0}, {"add", add, SULGHETI_STACK_DESK, 0},
     {"propose", propose, SULGHETI_STACK_DESK, 0}, {"share", share, SULGHETI_STACK_QUESTION, 0}, {"depot", depot, SULGHETI_STACK_QUESTION, 0},
     {"difference", difference, SULGHETI_STACK_QUESTION, 0}, {"written", written, SULGHETI_STACK_QUESTION, 0},
+    {"at_least", at_least, SULGHETI_STACK_QUESTION, 0},
 };
 
 /* Pages that cannot be touched, and above them a stack with room for a stated figure and for what a thread needs itself. */
@@ -165,10 +168,15 @@ int main(void) {
             EXPECT(SHARE, 0);
             EXPECT(DEPOT, 0);
             EXPECT(DIFFERENCE, 0);
+            /* where the figures fall, the mark is the depot's own W / q; where they are equal, it is not above that of all depots */
+            mark = 8 * (65535 - 1000u * first);
+            EXPECT(AT_LEAST, 0);
+            if (kind == EQUAL && x != ~(uint64_t)0) return 3;
+            if (kind == FALLING && x != ((uint64_t)2 << first) - 1) return 3;
         }
         memset(out, 0, SULGHETI_PLAN_MAX);
         EXPECT(WRITTEN, (int64_t)plan_len);
-        if (memcmp(out, plan, plan_len) != 0) return 3;
+        if (memcmp(out, plan, plan_len) != 0) return 4;
 
         /* each row of the list */
         damaged(list, 0, lists_refused, 1);

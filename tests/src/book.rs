@@ -1,5 +1,5 @@
 //! The plain book of document 01: a list, a plan or none, and the rows in the paper's order; before them the
-//! store's length, which is no row.
+//! store's length, which is no row. With document 02's question a, the depots at or over a mark.
 
 use crate::decompose::by_cuts;
 use crate::records::{listed, plan_bytes, Plan, Site};
@@ -17,10 +17,12 @@ pub enum Call {
     Difference(u8, u8),
     /// The bytes of the buffer.
     Written(usize),
+    /// The mark in litres.
+    AtLeast(u32),
 }
 
 impl Call {
-    /// The call's place among the eight.
+    /// The call's place among the nine.
     pub fn kind(&self) -> usize {
         match self {
             Call::Load(_) => 0,
@@ -31,6 +33,7 @@ impl Call {
             Call::Depot(_) => 5,
             Call::Difference(..) => 6,
             Call::Written(_) => 7,
+            Call::AtLeast(_) => 8,
         }
     }
 }
@@ -61,6 +64,7 @@ pub enum Told {
     Figures(u64, u64),
     Difference(i64, u64),
     Wrote(Vec<u8>),
+    Depots(u64),
 }
 
 #[derive(Clone, Debug)]
@@ -122,6 +126,23 @@ impl Book {
         }
         let place = self.place(depot);
         Ok(self.group(place))
+    }
+
+    /// W and q of every group, in their order.
+    pub fn figures(&mut self) -> Vec<(u64, u64)> {
+        (0..self.groups().len()).map(|place| self.group(place)).collect()
+    }
+
+    /// "The set of depots whose W/q is at least" the mark, depot by depot.
+    fn at_least(&mut self, mark: u32) -> u64 {
+        (0..64).filter(|&d| self.depot(d).is_ok_and(|(w, q)| w >= u64::from(mark) * q)).map(|d| 1 << d).sum()
+    }
+
+    /// On groups that may not fall: "reading ends at the first group below the mark".
+    fn read_to(&mut self, mark: u32) -> u64 {
+        let below = self.figures().iter().position(|&(w, q)| w < u64::from(mark) * q);
+        let read = below.unwrap_or(self.groups().len());
+        self.groups()[..read].iter().fold(0, |set, group| set | group)
     }
 
     /// The rows of a call in the paper's order, or what it answers; the book is as it is after it.
@@ -194,6 +215,10 @@ impl Book {
                     return Err(20);
                 }
                 Ok(Told::Wrote(bytes))
+            }
+            &Call::AtLeast(mark) => {
+                self.plan.as_ref().ok_or(17)?;
+                Ok(Told::Depots(if self.by_held { self.read_to(mark) } else { self.at_least(mark) }))
             }
         }
     }

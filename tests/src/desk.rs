@@ -8,12 +8,12 @@ use crate::near::{miss, next_season};
 use crate::records::{list_bytes, plan_bytes, Plan, Site};
 use crate::run::Run;
 
-/// How often each of the eight calls got each row; place 21 is success, place 22 no store.
-pub type Seen = [[usize; 23]; 8];
+/// How often each of the nine calls got each row; place 21 is success, place 22 no store.
+pub type Seen = [[usize; 23]; 9];
 
 /// The rows that each call can answer, 21 for success; row 0 only where the bytes are foreign. No store, 22, where
 /// they are of another number.
-const ROWS: [&[usize]; 8] = [
+const ROWS: [&[usize]; 9] = [
     &[1, 2, 3, 4, 5, 6, 21, 22],
     &[0, 6, 18, 21, 22],
     &[0, 2, 5, 6, 21, 22],
@@ -22,6 +22,7 @@ const ROWS: [&[usize]; 8] = [
     &[0, 17, 19, 21, 22],
     &[0, 17, 19, 21, 22],
     &[0, 17, 20, 21, 22],
+    &[0, 17, 21, 22],
 ];
 
 /// Lengths of no store, around that of a store and of its parts; and 4,632, as of shares of 8 bytes each.
@@ -29,7 +30,7 @@ const LENGTHS: [usize; 11] = [0, 1, 8, 24, 536, 2_583, 2_585, 2_588, 4_632, 5_16
 
 /// The rows of the table that some call never answered.
 pub fn missing(seen: &Seen) -> Vec<(usize, usize)> {
-    (0..8)
+    (0..ROWS.len())
         .flat_map(|kind| ROWS[kind].iter().map(move |&row| (kind, row)))
         .filter(|&(kind, row)| seen[kind][row] == 0)
         .collect()
@@ -99,6 +100,7 @@ fn call(run: &mut Run, desk: &mut Bytes, book: &mut Result<Book, Refusal>, call:
         Ok(Told::Done) => {}
         Ok(Told::Figures(x, y)) => (wanted.first, wanted.second) = (*x, *y),
         Ok(Told::Difference(d, q)) => (wanted.difference, wanted.second) = (*d, *q),
+        Ok(Told::Depots(set)) => wanted.first = *set,
         Ok(Told::Wrote(bytes)) => {
             wanted.code = bytes.len() as i64;
             out[..bytes.len()].copy_from_slice(bytes);
@@ -146,6 +148,7 @@ fn wrapped(
         &Call::Depot(depot) => desk.depot(depot).map(|(w, q)| Told::Figures(w, q)),
         &Call::Difference(a, b) => desk.difference(a, b).map(|(d, q)| Told::Difference(d, q)),
         Call::Written(_) => desk.written(&mut buffer).map(|n| Told::Wrote(buffer[..n].to_vec())),
+        &Call::AtLeast(mark) => desk.at_least(mark).map(Told::Depots),
     };
     let (store, table) = desk.bytes();
     let kept = store[..] == after.store && table == after.table && buffer == out;
@@ -206,6 +209,29 @@ fn proposed(run: &mut Run, book: &Book, old: &mut Vec<u8>) -> Vec<u8> {
     }
 }
 
+/// A mark in litres: at the W/q of a group, rounded down or up, one beside it, and where a product or a comparison in
+/// fewer bits would take it for a lower one; the ends; any other.
+fn mark(run: &mut Run, book: &Book) -> u32 {
+    let figures = if book.plan.is_some() { book.clone().figures() } else { Vec::new() };
+    let (litres, size) = if figures.is_empty() { (0, 1) } else { *run.rng.pick(&figures) };
+    let (down, up) = (litres / size, litres.div_ceil(size));
+    let mark = match run.rng.below(16) {
+        0..=2 => down,
+        3..=5 => up,
+        6 => down.saturating_sub(1),
+        7 => up + 1,
+        8 => 65_536 + down,
+        9 => 65_536 + up,
+        10 => ((1 << 32) + litres) / size,
+        11 => ((1u64 << 32) + litres).div_ceil(size),
+        12 => *run.rng.pick(&[0, 1, 65_535, 65_536]),
+        13 => u64::from(u32::MAX),
+        14 => run.rng.below(up as usize + 2) as u64,
+        _ => run.rng.word() >> 32,
+    };
+    mark.min(u64::from(u32::MAX)) as u32
+}
+
 /// A call of any kind, for a desk whose book is known.
 fn any_call(run: &mut Run, book: &Book, old: &mut Vec<u8>, most: usize, depots: usize) -> Call {
     let n = book.list.len();
@@ -218,9 +244,10 @@ fn any_call(run: &mut Run, book: &Book, old: &mut Vec<u8>, most: usize, depots: 
         14..=19 => Call::Change(run.rng.below(near), litres(run)),
         20..=27 => Call::Add(depot(run), depot(run), litres(run)),
         28..=54 => Call::Propose(proposed(run, book, old)),
-        55..=66 => Call::Share(if run.rng.percent(3) { run.rng.word() as usize } else { run.rng.below(near) }),
-        67..=76 => Call::Depot(depot(run)),
-        77..=88 => Call::Difference(depot(run), depot(run)),
+        55..=64 => Call::Share(if run.rng.percent(3) { run.rng.word() as usize } else { run.rng.below(near) }),
+        65..=72 => Call::Depot(depot(run)),
+        73..=81 => Call::Difference(depot(run), depot(run)),
+        82..=90 => Call::AtLeast(mark(run, book)),
         _ => {
             let length = book.plan.as_ref().map_or(5, |plan: &Plan| plan_bytes(plan).len());
             Call::Written(
@@ -243,11 +270,12 @@ fn history(run: &mut Run, places: usize, most: usize, depots: usize, calls: usiz
     (desk, book.expect("a book"))
 }
 
-/// The desk and table with some of their bytes changed: the figures of the store, a place, any bytes, or its length.
+/// The desk and table with some of their bytes changed: the figures of the store, a place, any bytes, or its length; or
+/// litres with the share of their site, so that row 0 lets the plan through, whose groups may then rise.
 fn foreign(run: &mut Run, desk: &Bytes) -> Bytes {
     let mut desk = desk.clone();
     let put = |bytes: &mut Vec<u8>, at: usize, with: &[u8]| bytes[at..at + with.len()].copy_from_slice(with);
-    match run.rng.below(10) {
+    match run.rng.below(13) {
         0 => {
             let places = (desk.table.len() / 4) as u64;
             let count = *run.rng.pick(&[0, 1, 2, places, places + 1, 512, 513, 1 << 32, u64::MAX]);
@@ -284,6 +312,18 @@ fn foreign(run: &mut Run, desk: &Bytes) -> Bytes {
             desk.store.resize(length, run.rng.byte());
         }
         8 => desk.store.iter_mut().for_each(|b| *b = run.rng.byte()),
+        9..=11 => {
+            let mut book = held(&desk.store, &desk.table).expect("a history's store");
+            if book.plan.is_some() && !book.list.is_empty() {
+                let site = run.rng.below(book.list.len());
+                let Ok(Told::Figures(share, whole)) = book.answer(&Call::Share(site)) else { panic!("a share") };
+                let litres = *run.rng.pick(&[1u16, 2, 9, 200, 65_535]);
+                let other = whole / u64::from(book.list[site].litres) * u64::from(litres);
+                let share = if share == whole { other } else { share.min(other) };
+                put(&mut desk.table, 4 * site + 2, &litres.to_le_bytes());
+                put(&mut desk.store, 536 + 4 * site, &(share as u32).to_le_bytes());
+            }
+        }
         _ => {
             let at = run.rng.below(desk.store.len());
             desk.store[at] ^= 1 << run.rng.below(8);
@@ -294,7 +334,7 @@ fn foreign(run: &mut Run, desk: &Bytes) -> Bytes {
 
 /// Histories of desk calls, at least `calls` of them, and calls of foreign bytes.
 pub fn histories(run: &mut Run, calls: usize) -> Seen {
-    let mut seen = [[0; 23]; 8];
+    let mut seen = [[0; 23]; 9];
     let end = run.cases + calls;
     while run.cases < end {
         let (places, most, depots, calls) = match run.rng.below(100) {
@@ -323,7 +363,89 @@ pub fn histories(run: &mut Run, calls: usize) -> Seen {
     }
     full(run, &mut seen);
     lengths(run, &mut seen);
+    marks(run, &mut seen);
     seen
+}
+
+/// Marks whose sets are worked out here: plans that pass, with the groups falling, and held groups that do not fall, which
+/// row 0 lets through.
+fn marks(run: &mut Run, seen: &mut Seen) {
+    let pair = |first: u8, second: u8, litres: u16| Site { first, second, litres };
+    let own = |depot: usize, litres: u16| pair(depot as u8, depot as u8, litres);
+    let all = u64::MAX;
+    let mut cases: Vec<(Vec<Site>, Vec<(u32, u64)>)> = vec![
+        // no sites
+        (vec![], vec![(0, 0), (1, 0), (u32::MAX, 0)]),
+        // T: 10/2 each; 2 x 2^31 is 0 in 32 bits
+        (
+            vec![pair(0, 1, 10)],
+            vec![(0, 3), (4, 3), (5, 3), (6, 0), (65_536, 0), (65_541, 0), (1 << 31, 0), (u32::MAX, 0)],
+        ),
+        // 11/2 and 5
+        (vec![own(0, 5), pair(0, 1, 6), own(2, 5)], vec![(0, 7), (5, 7), (6, 0), (1 << 31, 0)]),
+        // 9/2 and 1
+        (vec![pair(0, 1, 9), pair(1, 2, 1)], vec![(0, 7), (1, 7), (2, 3), (4, 3), (5, 0), (1 << 31, 0)]),
+        // depot 0 alone, with all that a list can have
+        (
+            vec![own(0, 65_535); 512],
+            vec![(65_536, 1), (33_553_919, 1), (33_553_920, 1), (33_553_921, 0), (u32::MAX, 0)],
+        ),
+        // the same litres with 64 depots: 524,280 each; 64 x 2^26 is 0 in 32 bits
+        (
+            (0..512).map(|i| own(i % 64, 65_535)).collect(),
+            vec![(0, all), (65_536, all), (524_280, all), (524_281, 0), (1 << 26, 0), (u32::MAX, 0)],
+        ),
+    ];
+    // 64 groups: each depot by itself, and each 1,000 litres below the one before
+    let place = |k: usize| 37 * k % 64;
+    let steps: Vec<Site> = (0..64).map(|k| own(place(k), 64_000 - 1_000 * k as u16)).collect();
+    let mut asked = vec![(0, all), (1, all), (65_535, 0), (65_536, 0), (u32::MAX, 0)];
+    let mut set = 0;
+    for (k, site) in steps.iter().enumerate() {
+        let litres = u32::from(site.litres);
+        asked.extend([(litres + 1, set), (litres + 500, set), (65_536 + litres, 0)]);
+        set |= 1 << place(k);
+        asked.extend([(litres, set), (litres - 1, set)]);
+    }
+    cases.push((steps, asked));
+    for (sites, asked) in cases {
+        let mut desk = Bytes::fresh(run, sites.len());
+        let mut book = Ok(Book::new(sites.len()));
+        let plan = plan_bytes(&run.plan(&sites));
+        call(run, &mut desk, &mut book, &Call::Load(list_bytes(&sites)), seen);
+        call(run, &mut desk, &mut book, &Call::AtLeast(asked[0].0), seen);
+        call(run, &mut desk, &mut book, &Call::Propose(plan), seen);
+        ask(run, &mut desk, &mut book, &asked, seen);
+    }
+    // own sites of depots 0, 1, .., each a held group of its own, in this order: rising, equal, falling and rising again
+    let held_groups: [(&[u16], &[(u32, u64)]); 4] = [
+        (&[4, 9], &[(0, 3), (4, 3), (5, 0), (9, 0), (10, 0), (65_540, 0), (u32::MAX, 0)]),
+        (&[4, 4], &[(0, 3), (4, 3), (5, 0)]),
+        (&[9, 4, 9], &[(0, 7), (4, 7), (5, 1), (9, 1), (10, 0)]),
+        (&[9, 9, 1, 8, 2], &[(1, 31), (2, 3), (8, 3), (9, 3), (10, 0)]),
+    ];
+    for (litres, asked) in held_groups {
+        let sites: Vec<Site> = litres.iter().enumerate().map(|(d, &w)| own(d, w)).collect();
+        let groups = (0..sites.len()).map(|d| 1 << d).collect();
+        let shares = litres.iter().map(|&w| u32::from(w)).collect();
+        let mut desk = Bytes::fresh(run, sites.len());
+        let written = Book::holding(sites.len(), sites, Some(Plan { groups, shares }));
+        desk.store = written.store();
+        desk.table = written.table(&desk.table);
+        let mut book = held(&desk.store, &desk.table);
+        ask(run, &mut desk, &mut book, asked, seen);
+    }
+}
+
+/// Marks, each with the set that is to be answered: that of the book too.
+fn ask(run: &mut Run, desk: &mut Bytes, book: &mut Result<Book, Refusal>, asked: &[(u32, u64)], seen: &mut Seen) {
+    for &(mark, set) in asked {
+        let told = book.as_mut().map_err(|refusal| *refusal).map(|book| book.answer(&Call::AtLeast(mark)));
+        if told != Ok(Ok(Told::Depots(set))) {
+            run.fail(&format!("the book answers {told:?} to mark {mark}, not {set:#x}"), &[("store", &desk.store)]);
+        }
+        call(run, desk, book, &Call::AtLeast(mark), seen);
+    }
 }
 
 /// Stores of other lengths, cut off or with bytes behind: every call, which the store itself grants or which a row
@@ -337,6 +459,7 @@ fn lengths(run: &mut Run, seen: &mut Seen) {
         Call::Depot(1),
         Call::Difference(0, 1),
         Call::Written(plan.len()),
+        Call::AtLeast(5),
         Call::Propose(plan.clone()),
         Call::Add(1, 2, 3),
         Call::Change(0, 11),
@@ -402,6 +525,7 @@ fn full(run: &mut Run, seen: &mut Seen) {
             Call::Depot(63),
             Call::Difference(0, 63),
             Call::Written(3_717),
+            Call::AtLeast(524_280),
             Call::Add(0, 0, 1),
         ]) {
             call(run, &mut desk, &mut book, &next, seen);

@@ -8,7 +8,7 @@ use lib.IntN.{ℤ, pos, negℤ}
 use lib.ListN.{length}
 use Rattle.records.specs.declared.Edition.{Edition}
 use Rattle.records.specs.Bytes.{Bytes}
-use Rattle.store.specs.Calls.{Call, Told, refused, done, shared, loaded, differ, wrote}
+use Rattle.store.specs.Calls.{Call, Told, refused, done, shared, loaded, differ, wrote, reached}
 use Rattle.store.specs.State.{bare, step}
 use Rattle.layout.specs.Layout.{storeBytes, storeIn}
 use Rattle.lent.specs.Lent.{stateIn, isOf, call}
@@ -30,6 +30,7 @@ doneCode (shared s w) = pos 0
 doneCode (loaded w q) = pos 0
 doneCode (differ d q) = pos 0
 doneCode (wrote n) = pos 0
+doneCode (reached x) = pos 0
 
 -- the length written, or the row
 abbrev pub lengthCode : Told → ℤ
@@ -39,6 +40,7 @@ lengthCode (shared s w) = pos 0
 lengthCode (loaded w q) = pos 0
 lengthCode (differ d q) = pos 0
 lengthCode (wrote n) = pos n
+lengthCode (reached x) = pos 0
 
 -- the figures of an answer; those that it does not have stay as they were
 abbrev pub firstOf : Told → ℕ → ℕ
@@ -48,6 +50,7 @@ firstOf (shared s w) x = s
 firstOf (loaded w q) x = w
 firstOf (differ d q) x = x
 firstOf (wrote n) x = x
+firstOf (reached y) x = y
 
 abbrev pub secondOf : Told → ℕ → ℕ
 secondOf (refused n) x = x
@@ -56,6 +59,7 @@ secondOf (shared s w) x = w
 secondOf (loaded w q) x = q
 secondOf (differ d q) x = q
 secondOf (wrote n) x = x
+secondOf (reached y) x = x
 
 abbrev pub differenceOf : Told → ℤ → ℤ
 differenceOf (refused n) x = x
@@ -64,6 +68,7 @@ differenceOf (shared s w) x = x
 differenceOf (loaded w q) x = x
 differenceOf (differ d q) x = d
 differenceOf (wrote n) x = x
+differenceOf (reached y) x = x
 
 abbrev pub outcomeOf : Told → ℕ → ℕ → ℤ → Coded
 outcomeOf a x y z = record { code = doneCode a; first = firstOf a x; second = secondOf a y; difference = differenceOf a z }
@@ -90,6 +95,12 @@ pub record Figures (e : Edition) (s t : List ℕ) (c : Call) (r : ℤ) (x y x' y
   pub code : r ≡ cond (isOf e s) (doneCode (answerOf e s t c)) noStoreCode
   pub first : x' ≡ cond (isOf e s) (firstOf (answerOf e s t c) x) x
   pub second : y' ≡ cond (isOf e s) (secondOf (answerOf e s t c) y) y
+  pub kept : Moved e s t c s t
+
+-- A question for one figure: document 02, a, the set of depots.
+pub record OneFigure (e : Edition) (s t : List ℕ) (c : Call) (r : ℤ) (x x' : ℕ) : Type 0 where
+  pub code : r ≡ cond (isOf e s) (doneCode (answerOf e s t c)) noStoreCode
+  pub figure : x' ≡ cond (isOf e s) (firstOf (answerOf e s t c) x) x
   pub kept : Moved e s t c s t
 
 -- "below zero where a is lighter, with the divisor"

@@ -75,6 +75,12 @@ pub fn outcome(a: Answer, first: u64, second: u64, difference: i64) -> Coded
             second,
             difference,
         },
+        Answer::Reached(x) => Coded {
+            code: 0,
+            first: x,
+            second,
+            difference,
+        },
     }
 }
 
@@ -90,6 +96,7 @@ pub fn written(a: Answer) -> i64
         Answer::Depot(_, _) => 0,
         Answer::Difference(_, _) => 0,
         Answer::Length(n) => length(n),
+        Answer::Reached(_) => 0,
     }
 }
 

@@ -70,7 +70,8 @@ within-question name a =
     either (is name "share") (within-number (λ i. Call (request.Share i)) _ a (λ i h. fine tt))
     (either (is name "depot") (within-number (λ d. Call (request.Depot d)) _ a (λ d h. fine tt))
     (either (is name "written") (within-number (λ n. Written n) _ a (λ n h. fine h))
-    bad))
+    (either (is name "atleast") (within-number (λ m. Call (request.AtLeast m)) _ a (λ m h. fine tt))
+    bad)))
 
 within-one : (name a : List ℕ) → Fine (oneWord name a)
 unfolding oneWord

@@ -22,7 +22,7 @@ abbrev pub ofNumber : Number → (ℕ → Command) → Command
 ofNumber (number.Value n) f = f n
 ofNumber number.Bad f = Bad
 
--- a site is at most 2^64 - 1, a depot at most 255, litres are at most 65,535
+-- a site is at most 2^64 - 1, a depot at most 255, litres are at most 65,535, a threshold (document 02's mark) is at most 4,294,967,295
 abbrev pub ofSite : List ℕ → (ℕ → Command) → Command
 ofSite word f = ofNumber (numberOf 18446744073709551615 word) f
 
@@ -31,6 +31,9 @@ ofDepot word f = ofNumber (numberOf 255 word) f
 
 abbrev pub ofLitres : List ℕ → (ℕ → Command) → Command
 ofLitres word f = ofNumber (numberOf 65535 word) f
+
+abbrev pub ofThreshold : List ℕ → (ℕ → Command) → Command
+ofThreshold word f = ofNumber (numberOf 4294967295 word) f
 
 -- a table has at most 600 places, a buffer at most 8,192 bytes
 abbrev pub ofPlaces : List ℕ → (ℕ → Command) → Command
@@ -48,7 +51,9 @@ question name a =
     (cond (is name "depot") (ofDepot a (λ d. Call (request.Depot d)))
     -- written LEN
     (cond (is name "written") (ofSize a (λ n. Written n))
-    Bad))
+    -- atleast LITRES
+    (cond (is name "atleast") (ofThreshold a (λ m. Call (request.AtLeast m)))
+    Bad)))
 
 -- a name and one word behind it
 unfoldable pub oneWord : List ℕ → List ℕ → Command

@@ -4,9 +4,9 @@ use script::Number;
 ghost use mathlib.Core.Path.{_≡_};
 ghost use mathlib.Core.List.{_∷_};
 ghost use Rattle.script.specs.Words.{wordsOf};
-ghost use Rattle.commands.specs.Commands.{ofBytes, ofSite, ofDepot, ofLitres, ofPlaces, ofSize, question, oneWord, twoWords, threeWords, callOf, commandOf};
+ghost use Rattle.commands.specs.Commands.{ofBytes, ofSite, ofDepot, ofLitres, ofThreshold, ofPlaces, ofSize, question, oneWord, twoWords, threeWords, callOf, commandOf};
 ghost use Rattle.commands.specs.declared.Command.the-variants.{Table, Call, Written, Check, Make};
-ghost use Rattle.edition1.specs.declared.Request1.the-variants.{Share, Depot, Change, Difference, Add};
+ghost use Rattle.edition1.specs.declared.Request1.the-variants.{Share, Depot, Change, Difference, Add, AtLeast};
 
 // What a line asks for. A `Call` is a call of the desk; `written`, which takes a buffer, has a variant of its own. Bytes are not held: they are words of the line.
 pub enum Command {
@@ -25,12 +25,14 @@ const PLACES: u64 = 600;
 // The most bytes of a buffer.
 const SIZE: u64 = 8192;
 
-// The largest numbers of a site, of a depot and of litres.
+// The largest numbers of a site, of a depot, of litres and of a threshold.
 const SITE: u64 = u64::MAX;
 
 const DEPOT: u64 = 255;
 
 const LITRES: u64 = 65535;
+
+const THRESHOLD: u64 = 4294967295;
 
 // table N
 fn table(text: &[u8]) -> Command
@@ -83,6 +85,16 @@ fn written(text: &[u8]) -> Command
     }
 }
 
+// atleast LITRES
+fn at_least(text: &[u8]) -> Command
+    ensures { λ r. ⌜ r ≡ ofThreshold (now (text .entry)) (λ m. Call (AtLeast m)) ⌝ }
+{
+    match script::decimal(text, THRESHOLD) {
+        Number::Value(m) => Command::Call(Request1::AtLeast(m as u32)),
+        Number::Bad => Command::Bad,
+    }
+}
+
 // The question of a name with one word behind it.
 fn question(name: &[u8], word: &[u8]) -> Command
     ensures { λ r. ⌜ r ≡ question (now (name .entry)) (now (word .entry)) ⌝ }
@@ -95,6 +107,9 @@ fn question(name: &[u8], word: &[u8]) -> Command
     }
     if check::same(name, b"written") {
         return written(word);
+    }
+    if check::same(name, b"atleast") {
+        return at_least(word);
     }
     Command::Bad
 }

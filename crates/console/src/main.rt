@@ -12,6 +12,7 @@
 //   share SITE                 `share`, s and w × q
 //   depot D                    `depot`, W and q
 //   difference A B             `difference`, the difference (with a minus sign where it is below zero) and its divisor
+//   atleast LITRES             `set` and the eight bytes, as in a plan's group, of the depots whose W/q is at least so many litres, a number up to 4,294,967,295
 //   written LEN                the held plan in a buffer as for `make`: `length` and its length, or `refused` and the row, and then the whole buffer
 //
 // A depot is a number up to 255, litres up to 65,535, a site up to 2^64 - 1.
@@ -92,6 +93,16 @@ fn print_difference(d: i64, q: u64) {
     }
 }
 
+// A set of depots as in a plan's group record: eight bytes, the lowest first.
+fn print_set(x: u64) {
+    let mut bytes = [0u8; 8];
+    records::number::put(&mut bytes, x);
+    let mut text = [0u8; 16];
+    let n = script::encode(&bytes, &mut text);
+    print(b"set ");
+    print(&text[..n]);
+}
+
 fn print_answer(a: Answer) {
     match a {
         Answer::Refused(row) => print_refused(row),
@@ -100,6 +111,7 @@ fn print_answer(a: Answer) {
         Answer::Depot(w, q) => print_numbers(b"depot ", w, q),
         Answer::Difference(d, q) => print_difference(d, q),
         Answer::Length(n) => print_length(n),
+        Answer::Reached(x) => print_set(x),
     }
 }
 

@@ -137,6 +137,7 @@ fn plain_answer(a: Answer) -> Plain {
             difference: d,
         },
         Answer::Length(n) => named(5, n as u64, 0),
+        Answer::Reached(x) => named(6, x, 0),
     }
 }
 
@@ -247,7 +248,8 @@ fn no_answers(start: Tally, d: Desk) -> Tally {
     let t = asked(start, d, Request1::Share(0), zero);
     let u = asked(t, d, Request1::Depot(0), zero);
     let v = asked(u, d, Request1::Difference(0, 1), zero);
-    asked(v, d, Request1::Written, zero)
+    let w = asked(v, d, Request1::AtLeast(0), zero);
+    asked(w, d, Request1::Written, zero)
 }
 
 // Row 0 in every call but load; a list that is refused, and the empty list, which is not.
@@ -341,6 +343,30 @@ fn rising(start: Tally) -> Tally {
     cleared(v, d, Request1::Add(0, 1, 1), 3)
 }
 
+// The depots that reach a threshold are read from the held groups in order, up to the first below it. Here W/q is 4 and then 9, which only row 16 refuses.
+fn rising_read(start: Tally) -> Tally {
+    let no = site(0, 0, 0);
+    let two = listed(2, site(0, 0, 4), site(1, 1, 9), no, 2);
+    let d = planned(two, 2, 1, 2, 4, 9);
+    let t = asked(start, d, Request1::AtLeast(0), Answer::Reached(3));
+    let u = asked(t, d, Request1::AtLeast(4), Answer::Reached(3));
+    let v = asked(u, d, Request1::AtLeast(5), Answer::Reached(0));
+    asked(v, d, Request1::AtLeast(9), Answer::Reached(0))
+}
+
+// Here it is 9 and then 4: at 9, 5 and 4, above 9, and far above.
+fn falling_read(start: Tally) -> Tally {
+    let no = site(0, 0, 0);
+    let two = listed(2, site(0, 0, 4), site(1, 1, 9), no, 2);
+    let d = planned(two, 2, 2, 1, 4, 9);
+    let t = asked(start, d, Request1::AtLeast(4), Answer::Reached(3));
+    let u = asked(t, d, Request1::AtLeast(5), Answer::Reached(2));
+    let v = asked(u, d, Request1::AtLeast(9), Answer::Reached(2));
+    let w = asked(v, d, Request1::AtLeast(10), Answer::Reached(0));
+    let x = asked(w, d, Request1::AtLeast(65536), Answer::Reached(0));
+    asked(x, d, Request1::AtLeast(4294967295), Answer::Reached(0))
+}
+
 // Content beyond what is held is no corruption: places of the table, of groups and of shares.
 fn beyond(start: Tally) -> Tally {
     let bad = site(255, 255, 0);
@@ -349,7 +375,9 @@ fn beyond(start: Tally) -> Tally {
     let t = asked(start, d, Request1::Share(0), Answer::Share(10, 20));
     let u = asked(t, d, Request1::Depot(0), Answer::Depot(10, 2));
     let v = asked(u, d, Request1::Share(1), Answer::Refused(18));
-    cleared(v, d, Request1::Add(2, 3, 4), 2)
+    let w = asked(v, d, Request1::AtLeast(5), Answer::Reached(3));
+    let x = asked(w, d, Request1::AtLeast(6), Answer::Reached(0));
+    cleared(x, d, Request1::Add(2, 3, 4), 2)
 }
 
 // Nor is a plan's content beside "no plan held".
@@ -358,7 +386,8 @@ fn beside(start: Tally) -> Tally {
     let one = listed(1, site(0, 1, 10), bad, bad, 1);
     let mut d = planned(one, 65, 3, 3, 99, 77);
     d.store.held = false;
-    let t = asked(start, d, Request1::Share(0), Answer::Refused(17));
+    let s = asked(start, d, Request1::AtLeast(0), Answer::Refused(17));
+    let t = asked(s, d, Request1::Share(0), Answer::Refused(17));
     let u = asked(t, d, Request1::Add(0, 1, 1), Answer::Refused(2));
     let v = asked(u, d, Request1::Propose, Answer::Refused(7));
     cleared(v, d, Request1::Change(0, 10), 1)
@@ -435,7 +464,8 @@ fn main() {
     let none = tally::nothing();
     let lists = corrupt_sites(corrupt_counts(none));
     let plans = corrupt_own(corrupt_shares(corrupt_groups(lists)));
-    let t = beside(beyond(rising(uneven(plans))));
+    let odd = falling_read(rising_read(rising(uneven(plans))));
+    let t = beside(beyond(odd));
     tally::print(b"corrupt desks", t);
     let some = lent(lent_none(none), 1, 2, 3, 3);
     let many = lent(some, 510, 511, 512, 512);

@@ -6,12 +6,13 @@ use Prim.Native.Nat.{ℕ, _^_}
 use lib.Dec.{T, eqb, ltb}
 use lib.ListN.{length, getD}
 use Rattle.sets.specs.Sum.{sum, all, any}
-use Rattle.sets.specs.Set.{∅, _∖_, has, isEmpty, weigh}
+use Rattle.sets.specs.Set.{∅, _∖_, has, setOf, isEmpty, weigh, lowest}
 use Rattle.density.specs.Network.{network, depotsInRange, litres, size}
 use Rattle.density.specs.Groups.{exceeds, best, nextGroup, groupsFrom}
 use Rattle.density.specs.Plan.{union, group, before, place, carrier, groupSize, groupLitres, whole, firstShare, secondShare, shareOf, target}
 use Rattle.density.specs.Rows.{firstRow, groupsMeet, groupsUnlisted, shareBroken, sharesBroken, scaledLoad, loadsUneven, groupsRise, planRows}
-use Rattle.density.specs.Examples.{Example, noSites, starred, nineSites, Refused, refused, noRefusal}
+use Rattle.density.specs.Figures.{groupsRead, depotsRead, everyGroup}
+use Rattle.density.specs.Examples.{Example, noSites, starred, nineSites, Refused, refused, noRefusal, Reading, reading, ownSites, readings}
 
 -- two lists are the same
 unfoldable pub same : List ℕ → List ℕ → Bool
@@ -49,6 +50,12 @@ hasRow (some m) n = eqb m n
 unfoldable pub getsRow : Refused → Bool
 getsRow r = hasRow (firstRow (planRows (network (r .list)) (r .groups) (r .shares))) (r .number)
 
+-- the sets of a reading
+unfoldable pub readsSo : Reading → Bool
+readsSo x =
+    eqb (setOf (depotsRead (network ownSites) (x .groups) (x .threshold)) 64) (x .read)
+    && eqb (setOf (everyGroup (network ownSites) (x .groups) (x .threshold)) 64) (x .every)
+
 -- ---- computed over the tables
 
 pub computed-groups : T (all (λ k. grouped 3 (getD starred k noSites)) (length starred))
@@ -66,3 +73,7 @@ computed-plans = tt
 pub computed-refusals : T (all (λ k. getsRow (getD refused k noRefusal)) (length refused))
 unfolding getsRow hasRow refused sum all any has weigh size network firstRow planRows groupsMeet groupsUnlisted sharesBroken shareBroken loadsUneven scaledLoad shareOf target groupsRise place union carrier groupSize groupLitres whole firstShare secondShare
 computed-refusals = tt
+
+pub computed-readings : T (all (λ k. readsSo (getD readings k (reading [] 0 0 0))) (length readings))
+unfolding readsSo readings sum all any has setOf weigh lowest size network place union carrier groupSize groupLitres groupsRead everyGroup
+computed-readings = tt

@@ -1,6 +1,7 @@
--- The starred lists, the nine sites and the refused plans: what the computed tests say. The groups of a starred list are found twice, by the
+-- The starred lists, the nine sites, the refused plans and thresholds: what the computed tests say. The groups of a starred list are found twice, by the
 -- definition run over every set and by the rows on its plan. Assumes nothing.
 use mathlib.Core.Path.{_≡_, refl, sym, _∙_}
+use mathlib.Core.Bool.{true, false}
 use mathlib.Core.List.{List, [], _∷_}
 use mathlib.Core.Option.{Option, none, some}
 use Prim.Native.Nat.{ℕ, _≤_, _<_, _^_}
@@ -11,12 +12,13 @@ use Rattle.sets.specs.Set.{∅, _⊆_}
 use Rattle.density.specs.Network.{network, Valid, litres, size}
 use Rattle.density.specs.Groups.{groupsFrom}
 use Rattle.density.specs.Plan.{group, before, groupSize, groupLitres, Formed, TruePlan}
+use Rattle.density.specs.Figures.{reaches}
 use Rattle.density.specs.Rows.{firstRow, planRows}
-use Rattle.density.specs.Examples.{Example, noSites, starred, Grouped, Known, nineSites, refused, noRefusal, GetsRow}
+use Rattle.density.specs.Examples.{Example, noSites, starred, Grouped, Known, nineSites, refused, noRefusal, GetsRow, reading, readings, ReadsSo}
 use Rattle.sets.proofs.Test.{and-l, and-r}
 use Rattle.sets.proofs.Sum.{all-at}
 use Rattle.sets.proofs.Set.{subset-of}
-use Rattle.density.proofs.Cases.{same, grouped, isNone, passes, hasRow, getsRow, computed-groups, computed-nine, computed-plans, computed-refusals}
+use Rattle.density.proofs.Cases.{same, grouped, isNone, passes, hasRow, getsRow, computed-groups, computed-nine, computed-plans, computed-refusals, readsSo, computed-readings}
 use Rattle.density.proofs.Lists.{valid}
 use Rattle.density.proofs.Checks.{no-row}
 use Rattle.density.proofs.Existence.{run-is}
@@ -91,3 +93,21 @@ hasRow→ (some m) n t = cc (eqb→eq m n t)
 pub refused-row : (k : ℕ) → k < length refused → GetsRow (getD refused k noRefusal)
 unfolding getsRow
 refused-row k l = hasRow→ _ _ (all-at (λ k. getsRow (getD refused k noRefusal)) (length refused) computed-refusals k l)
+
+-- Document 02, a: W/q at a threshold exactly reaches it, and nothing is rounded up
+pub reaches-exactly : reaches 4 8 2 ≡ true
+reaches-exactly = refl
+
+pub reaches-below : reaches 4 9 2 ≡ true
+reaches-below = refl
+
+pub reaches-not : reaches 5 9 2 ≡ false
+reaches-not = refl
+
+-- and every reading has its sets
+pub readings-known : (k : ℕ) → k < length readings → ReadsSo (getD readings k (reading [] 0 0 0))
+unfolding readsSo
+readings-known k l =
+    let x = getD readings k (reading [] 0 0 0) in
+    let t = all-at (λ k. readsSo (getD readings k (reading [] 0 0 0))) (length readings) computed-readings k l in
+    record { read = eqb→eq _ (x .read) (search and-l); every = eqb→eq _ (x .every) (search and-r) }

@@ -12,6 +12,7 @@ pub mod Rows
 pub mod Checks
 pub mod Lists
 pub mod Figures
+pub mod AtLeast
 pub mod Agree
 pub mod Examples
 pub mod Split

@@ -1,14 +1,16 @@
--- Document 01, "Lists with known plans": the starred lists, and the examples of rows 12 to 16.
+-- Document 01, "Lists with known plans": the starred lists, and the examples of rows 12 to 16. Document 02, a: thresholds.
 use mathlib.Core.Path.{_≡_}
 use mathlib.Core.List.{List, [], _∷_}
 use mathlib.Core.Option.{some}
 use Prim.Native.Nat.{ℕ, _<_}
 use lib.ListN.{length, getD}
+use Rattle.sets.specs.Set.{setOf}
 use Rattle.density.specs.declared.Site.{Site}
 use Rattle.density.specs.Network.{Listing, network, litres}
 use Rattle.density.specs.Groups.{groupsOf}
 use Rattle.density.specs.Plan.{group, before, groupLitres, groupSize, TruePlan}
 use Rattle.density.specs.Rows.{firstRow, planRows}
+use Rattle.density.specs.Figures.{depotsRead, everyGroup}
 
 -- a list, its groups with W and q of each, and shares
 pub record Example : Type 0 where
@@ -54,6 +56,38 @@ nineSites =
     (8 ∷ 1 ∷ [])
     (5 ∷ 1 ∷ [])
     []
+
+-- Document 02, a: groups of own sites of 4 and of 9 ({0} is 1, {1} 2), a threshold, and the sets found by reading up to the first group below it and by looking
+-- at every group. {1}, {0} fall; {0}, {1} do not, so that the two sets can differ; {0,1} has W/q 13/2 and reaches 6, not 7.
+pub record Reading : Type 0 where
+  pub groups : List ℕ
+  pub threshold : ℕ
+  pub read : ℕ
+  pub every : ℕ
+
+abbrev pub reading : List ℕ → ℕ → ℕ → ℕ → Reading
+reading g t r e = record { groups = g; threshold = t; read = r; every = e }
+
+abbrev pub ownSites : Listing
+ownSites = record { sites = own 0 4 ∷ own 1 9 ∷ [] }
+
+unfoldable pub readings : List Reading
+readings =
+    reading (2 ∷ 1 ∷ []) 0 3 3
+    ∷ reading (2 ∷ 1 ∷ []) 4 3 3
+    ∷ reading (2 ∷ 1 ∷ []) 5 2 2
+    ∷ reading (2 ∷ 1 ∷ []) 9 2 2
+    ∷ reading (2 ∷ 1 ∷ []) 10 0 0
+    ∷ reading (1 ∷ 2 ∷ []) 4 3 3
+    ∷ reading (1 ∷ 2 ∷ []) 5 0 2
+    ∷ reading (3 ∷ []) 6 3 3
+    ∷ reading (3 ∷ []) 7 0 0
+    ∷ []
+
+-- these are the sets
+pub record ReadsSo (x : Reading) : Type 0 where
+  pub read : setOf (depotsRead (network ownSites) (x .groups) (x .threshold)) 64 ≡ x .read
+  pub every : setOf (everyGroup (network ownSites) (x .groups) (x .threshold)) 64 ≡ x .every
 
 -- the groups are those of the definition, with W, which is also the group's litres given the earlier ones, and q
 pub record Grouped (e : Example) : Type 0 where

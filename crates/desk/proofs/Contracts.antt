@@ -16,9 +16,9 @@ use denote.Ref.{RefT, now}
 use lib.IntN.{ℤ}
 use Rattle.records.specs.Format.{edition1}
 use Rattle.store.specs.declared.Request.{Request}
-use Rattle.store.specs.declared.Request.the-variants.{Load, Change, Add, Propose, Share, Depot, Difference, Written}
+use Rattle.store.specs.declared.Request.the-variants.{Load, Change, Add, Propose, Share, Depot, Difference, Written, AtLeast}
 use Rattle.store.specs.Calls.{Call}
-use Rattle.codes.specs.Codes.{Did, Figures, Differs, WroteOut, FreshCode}
+use Rattle.codes.specs.Codes.{Did, Figures, OneFigure, Differs, WroteOut, FreshCode}
 use Rattle.desk.proofs.sulgheti_fresh as of-fresh
 use Rattle.desk.proofs.sulgheti_load as of-load
 use Rattle.desk.proofs.sulgheti_change as of-change
@@ -28,6 +28,7 @@ use Rattle.desk.proofs.sulgheti_share as of-share
 use Rattle.desk.proofs.sulgheti_depot as of-depot
 use Rattle.desk.proofs.sulgheti_difference as of-difference
 use Rattle.desk.proofs.sulgheti_written as of-written
+use Rattle.desk.proofs.sulgheti_at_least as of-at-least
 
 abbrev asked : Request → List ℕ → List ℕ → Call
 asked q input buffer = record { request = q; input = input; buffer = buffer }
@@ -105,3 +106,11 @@ module _ {M : Type 1} (𝓤 : URA M) (H : Heap 𝓤) (A : Atoms 𝓤) (mem : Mem
 
     written-asks : (κs : Lfts 3) (out : RefT (List ℕ)) → of-written.clauses 𝓤 H A mem run κs (s, (t, (out, tt))) .requires tt ≡ ⊤ₛ
     written-asks κs out = refl
+
+    at-least-says : (κs : Lfts 3) (m : ℕ) (x x' : RefT ℕ)
+        → of-at-least.clauses 𝓤 H A mem run κs (s, (t, (m, (x, tt)))) .ensures tt r (s', (t', (m, (x', tt))))
+        ≡ ⌜ OneFigure edition1 (now s) (now t) (asked (AtLeast m) [] []) r (now x) (now x') ⌝
+    at-least-says κs m x x' = refl
+
+    at-least-asks : (κs : Lfts 3) (m : ℕ) (x : RefT ℕ) → of-at-least.clauses 𝓤 H A mem run κs (s, (t, (m, (x, tt)))) .requires tt ≡ ⊤ₛ
+    at-least-asks κs m x = refl

@@ -1,4 +1,4 @@
--- The contracts of the exported functions of the store say what `Did`, `Figures`, `Differs`, `WroteOut` and `FreshCode` say of edition 1 (Contracts); so any calls of them,
+-- The contracts of the exported functions of the store say what `Did`, `Figures`, `OneFigure`, `Differs`, `WroteOut` and `FreshCode` say of edition 1 (Contracts); so any calls of them,
 -- from what `sulgheti_fresh` writes where it answers 0 and a table of any bytes, are a history of document 01, and each code, figure and buffer that they give is that of the
 -- history's reply. The laws are over the edition. Assumes nothing.
 use Prim.Native.Nat.{ℕ, zero, suc}
@@ -16,7 +16,7 @@ use Rattle.records.proofs.Samples.{marked1}
 use Rattle.held_state.specs.declared.Store.{Store}
 use Rattle.held_state.specs.Held.{State, on}
 use Rattle.store.specs.declared.Request.{Request}
-use Rattle.store.specs.declared.Request.the-variants.{Share, Depot, Difference}
+use Rattle.store.specs.declared.Request.the-variants.{Share, Depot, Difference, AtLeast}
 use Rattle.store.specs.Calls.{Call, Reply, Told}
 use Rattle.store.specs.State.{Done, modelOf, effectOf, refusal, settle, step}
 use Rattle.store.specs.Trace.{Run, start, then, Steps, History, AllBytes, Exact, SameFigures}
@@ -26,7 +26,7 @@ use Rattle.lent.specs.Lent.{stateIn, isOf, call, Freshened}
 use Rattle.lent.proofs.Contracts.{laid-reply, fresh-sized}
 use Rattle.codes.specs.Codes.{rowCode, noStoreCode, doneCode, firstOf, secondOf, differenceOf, answerOf, Moved, FreshCode}
 use Rattle.codes.proofs.DeskCodes.{other-code}
-use Rattle.desk.specs.Exports.{Given, coded, figures, differs, written, Exported, Answers, AllAnswer, Calls, none, next, question, SameGiven}
+use Rattle.desk.specs.Exports.{Given, coded, figures, differs, written, oneFigure, Exported, Answers, AllAnswer, Calls, none, next, question, SameGiven}
 
 module _ (e : Edition) (s t s' t' : List ℕ) (c : Call) where
   as-kept : s' ≡ s → t' ≡ t → Moved e s t c s t → Moved e s t c s' t'
@@ -37,6 +37,7 @@ module _ (e : Edition) (s t s' t' : List ℕ) (c : Call) where
   moved (figures r a b a' b') x = as-kept (x .1) (x .2) (x .0 .kept)
   moved (differs r a b a' b') x = as-kept (x .1) (x .2) (x .0 .kept)
   moved (written r out) x = as-kept (x .1) (x .2) (x .0 .kept)
+  moved (oneFigure r a a') x = as-kept (x .1) (x .2) (x .0 .kept)
 
   module _ (long : isOf e s ≡ true) where
     answers : (g : Given) → Exported e s t c g s' t' → Answers g (call e s t c .reply)
@@ -44,6 +45,7 @@ module _ (e : Edition) (s t s' t' : List ℕ) (c : Call) where
     answers (figures r a b a' b') x = (rw long at (x .0 .code), rw long at (x .0 .first), rw long at (x .0 .second))
     answers (differs r a b a' b') x = (rw long at (x .0 .code), rw long at (x .0 .difference), rw long at (x .0 .divisor))
     answers (written r out) x = (rw long at (x .0 .code), rw long at (x .0 .buffer))
+    answers (oneFigure r a a') x = (rw long at (x .0 .code), rw long at (x .0 .figure))
 
     is-step : Moved e s t c s' t' → Steps (stateIn e s t) c (call e s t c .reply) (stateIn e s' t')
     is-step m = ap₂ (λ (z : State) (r : Reply). record { after = z; reply = r }) (m .reads long) (laid-reply e s t (step (stateIn e s t) c))
@@ -158,9 +160,16 @@ module _ {e : Edition} {s₁ t₁ s₂ t₂ : List ℕ} (h : SameFigures (stateI
                   ∙ same .1
                   ∙ sym (given e s₂ t₂ q (g .kept) (g .code) (λ (a : Told). secondOf a y₂) y₂ (g .divisor)),
             );
+        at-least = λ m x₁ x₁' x₂ x₂' f g.
+            let q = AtLeast m in
+            let same = h .at-least (question q) (question q) m _ _ _ _ _ _ refl refl (steps e s₁ t₁ q (f .kept) (f .code)) (steps e s₂ t₂ q (g .kept) (g .code))
+            (answered e s₁ t₁ q (f .kept) (f .code)) (answered e s₂ t₂ q (g .kept) (g .code)) in
+            given e s₁ t₁ q (f .kept) (f .code) (λ (a : Told). firstOf a x₁) x₁ (f .figure)
+            ∙ same
+            ∙ sym (given e s₂ t₂ q (g .kept) (g .code) (λ (a : Told). firstOf a x₂) x₂ (g .figure));
       }
 
--- Two stores that hold the same list after such calls: each W, q, w × q and difference that both answer, and that the functions give for both, is the same.
+-- Two stores that hold the same list after such calls: each W, q, w × q, difference and set of depots that both answer, and that the functions give for both, is the same.
 pub calls-same : {e : Edition} {s₀ s t s' t' u₀ u v u' v' : List ℕ} {cs ds : List Call} {gs hs : List Given}
     → Marked e → FreshCode e s₀ (pos 0) s → Calls e s t cs gs s' t' → FreshCode e u₀ (pos 0) u → Calls e u v ds hs u' v'
     → modelOf (stateIn e s' t') .list ≡ modelOf (stateIn e u' v') .list → SameFigures (stateIn e s' t') (stateIn e u' v') × SameGiven e s' t' u' v'

@@ -5,16 +5,17 @@ use mathlib.Core.Path.{_≡_}
 use lib.IntN.{ℤ, pos}
 use Rattle.records.specs.declared.Edition.{Edition}
 use Rattle.store.specs.declared.Request.{Request}
-use Rattle.store.specs.declared.Request.the-variants.{Share, Depot, Difference}
+use Rattle.store.specs.declared.Request.the-variants.{Share, Depot, Difference, AtLeast}
 use Rattle.store.specs.Calls.{Call, Reply}
-use Rattle.codes.specs.Codes.{doneCode, lengthCode, firstOf, secondOf, differenceOf, Did, Figures, Differs, WroteOut}
+use Rattle.codes.specs.Codes.{doneCode, lengthCode, firstOf, secondOf, differenceOf, Did, Figures, OneFigure, Differs, WroteOut}
 
--- What a function gives: its code; the figures behind its two pointers, before the call and after it; the buffer after it.
+-- What a function gives: its code; the figures behind its pointers, before the call and after it; the buffer after it.
 pub data Given : Type 0 where
   coded : ℤ → Given
   figures : ℤ → ℕ → ℕ → ℕ → ℕ → Given
   differs : ℤ → ℤ → ℕ → ℤ → ℕ → Given
   written : ℤ → List ℕ → Given
+  oneFigure : ℤ → ℕ → ℕ → Given
 
 -- the contract of the function that gives so, for the bytes of the store and of the table before and after; a question leaves them
 abbrev pub Exported : Edition → List ℕ → List ℕ → Call → Given → List ℕ → List ℕ → Type 0
@@ -22,6 +23,7 @@ Exported e s t c (coded r) s' t' = Did e s t c r s' t'
 Exported e s t c (figures r x y x' y') s' t' = Figures e s t c r x y x' y' × (s' ≡ s) × (t' ≡ t)
 Exported e s t c (differs r x y x' y') s' t' = Differs e s t c r x y x' y' × (s' ≡ s) × (t' ≡ t)
 Exported e s t c (written r out) s' t' = WroteOut e s t c r out × (s' ≡ s) × (t' ≡ t)
+Exported e s t c (oneFigure r x x') s' t' = OneFigure e s t c r x x' × (s' ≡ s) × (t' ≡ t)
 
 -- what is given is the reply, in numbers: the code is 0, the length or the row; the figures are written where there are any; the buffer is the reply's
 abbrev pub Answers : Given → Reply → Type 0
@@ -29,6 +31,7 @@ Answers (coded r) a = r ≡ doneCode (a .answer)
 Answers (figures r x y x' y') a = (r ≡ doneCode (a .answer)) × (x' ≡ firstOf (a .answer) x) × (y' ≡ secondOf (a .answer) y)
 Answers (differs r x y x' y') a = (r ≡ doneCode (a .answer)) × (x' ≡ differenceOf (a .answer) x) × (y' ≡ secondOf (a .answer) y)
 Answers (written r out) a = (r ≡ lengthCode (a .answer)) × (out ≡ a .buffer)
+Answers (oneFigure r x x') a = (r ≡ doneCode (a .answer)) × (x' ≡ firstOf (a .answer) x)
 
 -- the same of each of several calls
 unfoldable pub AllAnswer : List Given → List Reply → Type 0
@@ -47,8 +50,8 @@ pub data Calls (e : Edition) : List ℕ → List ℕ → List Call → List Give
 abbrev pub question : Request → Call
 question q = record { request = q; input = []; buffer = [] }
 
--- "Two desks hold the same list if their books' lists are equal": each W, q, w × q and difference that the same question then gets of both,
--- with the code 0, is the same; s is that of each one's plan.
+-- "Two desks hold the same list if their books' lists are equal": each W, q, w × q, difference and set of depots that the same question
+-- then gets of both, with the code 0, is the same; s is that of each one's plan.
 pub record SameGiven (e : Edition) (s₁ t₁ s₂ t₂ : List ℕ) : Type 0 where
   pub site : (i : ℕ) (x₁ y₁ x₁' y₁' x₂ y₂ x₂' y₂' : ℕ) → Figures e s₁ t₁ (question (Share i)) (pos 0) x₁ y₁ x₁' y₁'
       → Figures e s₂ t₂ (question (Share i)) (pos 0) x₂ y₂ x₂' y₂' → y₁' ≡ y₂'
@@ -57,3 +60,5 @@ pub record SameGiven (e : Edition) (s₁ t₁ s₂ t₂ : List ℕ) : Type 0 whe
   pub differences : (a b : ℕ) (x₁ : ℤ) (y₁ : ℕ) (x₁' : ℤ) (y₁' : ℕ) (x₂ : ℤ) (y₂ : ℕ) (x₂' : ℤ) (y₂' : ℕ)
       → Differs e s₁ t₁ (question (Difference a b)) (pos 0) x₁ y₁ x₁' y₁'
       → Differs e s₂ t₂ (question (Difference a b)) (pos 0) x₂ y₂ x₂' y₂' → (x₁' ≡ x₂') × (y₁' ≡ y₂')
+  pub at-least : (m : ℕ) (x₁ x₁' x₂ x₂' : ℕ) → OneFigure e s₁ t₁ (question (AtLeast m)) (pos 0) x₁ x₁'
+      → OneFigure e s₂ t₂ (question (AtLeast m)) (pos 0) x₂ x₂' → x₁' ≡ x₂'

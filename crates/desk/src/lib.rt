@@ -10,7 +10,7 @@ use store::Request;
 ghost use mathlib.Core.List.{[]};
 ghost use Rattle.records.specs.Format.{edition1};
 ghost use Rattle.store.specs.declared.Request.the-variants as request;
-ghost use Rattle.codes.specs.Codes.{Did, Figures, Differs, WroteOut, FreshCode};
+ghost use Rattle.codes.specs.Codes.{Did, Figures, OneFigure, Differs, WroteOut, FreshCode};
 
 // A fresh store: 0.
 #[no_mangle]
@@ -158,4 +158,18 @@ pub extern "C" fn sulgheti_written(store: &[u8], table: &[u8], buffer: &mut [u8]
     }
     let a = lent::look(edition1(), store, table, Request::Written, buffer);
     written(a)
+}
+
+// The depots whose W/q is at least so many litres, as a set: 0, or the row.
+#[no_mangle]
+pub extern "C" fn sulgheti_at_least(
+    store: &[u8],
+    table: &[u8],
+    litres: u32,
+    depots: &mut u64,
+) -> i64
+    ensures { λ r. ⌜ OneFigure edition1 (now (store .entry)) (now (table .entry)) (record { request = request.AtLeast litres; input = []; buffer = [] }) r (now (depots .entry)) (now (depots .exit)) ⌝ }
+{
+    let mut none: u64 = 0;
+    figures(store, table, Request::AtLeast(litres), depots, &mut none)
 }

@@ -13,7 +13,7 @@ use Rattle.edition1.specs.declared.Store1.{Store1}
 use Rattle.store.specs.declared.Request.{Request}
 use Rattle.store.specs.declared.Request.the-variants as wide
 use Rattle.edition1.specs.declared.Request1.{Request1}
-use Rattle.edition1.specs.declared.Request1.the-variants.{Load, Change, Add, Propose, Share, Depot, Difference, Written}
+use Rattle.edition1.specs.declared.Request1.the-variants.{Load, Change, Add, Propose, Share, Depot, Difference, Written, AtLeast}
 use Rattle.edition1.specs.declared.Decision1.{Decision1}
 use Rattle.edition1.specs.declared.Out1.{Out1}
 use Rattle.store.specs.Calls.{Call, told}
@@ -35,6 +35,7 @@ requestOf1 (Share i) = wide.Share i
 requestOf1 (Depot d) = wide.Depot d
 requestOf1 (Difference a b) = wide.Difference a b
 requestOf1 Written = wide.Written
+requestOf1 (AtLeast m) = wide.AtLeast m
 
 abbrev pub callOf1 : Request1 → List ℕ → List ℕ → Call
 callOf1 q input buffer = record { request = requestOf1 q; input = input; buffer = buffer }

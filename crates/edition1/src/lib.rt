@@ -23,7 +23,7 @@ pub struct Store1 {
     pub shares: [u32; 512],
 }
 
-// "Litres in a change or an added site are a 16-bit figure"
+// "Litres in a change or an added site are a 16-bit figure"; a threshold has 32 bits
 pub enum Request1 {
     Load,
     Change(usize, u16),
@@ -33,6 +33,7 @@ pub enum Request1 {
     Depot(u8),
     Difference(u8, u8),
     Written,
+    AtLeast(u32),
 }
 
 pub struct Decision1 {
@@ -132,6 +133,7 @@ pub fn widen_request(q: Request1) -> Request
         Request1::Depot(d) => Request::Depot(d),
         Request1::Difference(a, b) => Request::Difference(a, b),
         Request1::Written => Request::Written,
+        Request1::AtLeast(m) => Request::AtLeast(m),
     }
 }
 

@@ -95,7 +95,7 @@ pub calls1-exact : {s : Store1} {table table' : List Site1} {ps : List Passed1} 
     → Exact edition1 (map widened table) (map passed ps) (map replied rs) (view1 s table')
 calls1-exact calls = exact marked1 (calls1-history calls) (calls1-bytes calls)
 
--- Two stores that hold the same list after such calls: each W, q, w × q and difference that both answer is the same.
+-- Two stores that hold the same list after such calls: each W, q, w × q, difference and set of depots that both answer is the same.
 pub calls1-same-figures : {s s' : Store1} {t t' u u' : List Site1} {ps qs : List Passed1} {rs ts : List Result1}
     → Calls1 fresh1 t ps rs s u → Calls1 fresh1 t' qs ts s' u' → modelOf (view1 s u) .list ≡ modelOf (view1 s' u') .list → SameFigures (view1 s u) (view1 s' u')
 calls1-same-figures x y = same-figures (calls1-exact x) (calls1-exact y)
@@ -124,7 +124,7 @@ calls-on1-exact calls =
     let (x, e) = calls-on1 calls in
     (calls1-exact x, e)
 
--- Two stores that hold the same list after such calls: each W, q, w × q and difference that both answer is the same.
+-- Two stores that hold the same list after such calls: each W, q, w × q, difference and set of depots that both answer is the same.
 pub calls-on1-same-figures : {k k' : ℕ} {s s' : Store1} {t t' u u' : List Site1} {ps qs : List Passed1} {rs ts : List ResultOn1}
     → CallsOn1 k fresh1 t ps rs s u → CallsOn1 k' fresh1 t' qs ts s' u'
     → modelOf (view1 s (take k u)) .list ≡ modelOf (view1 s' (take k' u')) .list → SameFigures (view1 s (take k u)) (view1 s' (take k' u'))

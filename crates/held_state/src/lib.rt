@@ -7,16 +7,16 @@ use tables::Verdict;
 ghost use mathlib.Core.Path.{_≡_};
 ghost use mathlib.Core.List.{List};
 ghost use Prim.Native.Nat.{ℕ, _*_, _^_, _<_, _≤_};
-ghost use lib.Dec.{T};
+ghost use lib.Dec.{T, ltb};
 ghost use lib.IntN.{pos, _-ℤ_};
 ghost use lib.ListN.{length, getD};
-ghost use Rattle.sets.specs.Set.{has};
+ghost use Rattle.sets.specs.Set.{has, setOf};
 ghost use Rattle.sets.specs.Sum.{any};
 ghost use Rattle.density.specs.Network.{noSite};
-ghost use Rattle.density.specs.Figures.{differenceOf};
+ghost use Rattle.density.specs.Figures.{differenceOf, groupsRead, depotsRead};
 ghost use Rattle.records.specs.declared.ListArray.{ListArray};
 ghost use Rattle.records.specs.declared.PlanArray.{PlanArray};
-ghost use Rattle.tables.specs.Tables.{Kept, lentPlan};
+ghost use Rattle.tables.specs.Tables.{net, groupsIn, Kept, lentPlan};
 ghost use Rattle.held_state.specs.Held.{State, badSite, corrupt};
 ghost use Rattle.held_state.specs.Values.{BadKnown, Stands, Examined, heldLitres, heldSize};
 
@@ -157,4 +157,36 @@ pub fn difference_of(f: Form, a: u8, b: u8) -> Difference
         value: less(x.litres * y.size, y.litres * x.size),
         divisor: x.size * y.size,
     }
+}
+
+// Is W/q below a threshold in litres (document 02: a mark)? W is compared with threshold × q: nothing is divided.
+fn is_below(litres: u64, size: u64, threshold: u32) -> bool
+    requires { ⌜ size ≤ 576 ⌝ }
+    ensures { λ r. ⌜ r ≡ ltb litres (threshold * size) ⌝ }
+{
+    litres < (threshold as u64) * size
+}
+
+// How many of the n groups are read, in order: those before the first below the threshold, all where none is.
+fn groups_read(f: Form, n: usize, threshold: u32) -> usize
+    requires { ⌜ ((list : ListArray) × (plan : PlanArray) × (ws : List ℕ) × Kept list plan f ws × (n ≡ plan .count)) ⌝ }
+    ensures { λ r. ⌜ (r ≤ n) × ((list : ListArray) (plan : PlanArray) (ws : List ℕ) → Kept list plan f ws → n ≡ plan .count → r ≡ groupsRead (net list) (groupsIn list plan) threshold) ⌝ }
+{
+    let mut k: usize = 0;
+    while k < n {
+        if is_below(f.litres[k], f.sizes[k], threshold) {
+            return k;
+        }
+        k += 1;
+    }
+    k
+}
+
+// The depots whose W/q is at least the threshold: those of the held groups that are read.
+pub fn at_least(f: Form, groups: &[u64], threshold: u32) -> u64
+    requires { ⌜ ((list : ListArray) × (plan : PlanArray) × (ws : List ℕ) × Kept list plan f ws × (now groups ≡ groupsIn list plan)) ⌝ }
+    ensures { λ r. ⌜ ((list : ListArray) (plan : PlanArray) (ws : List ℕ) → Kept list plan f ws → now (groups .entry) ≡ groupsIn list plan → r ≡ setOf (depotsRead (net list) (groupsIn list plan) threshold) 64) ⌝ }
+{
+    let k = groups_read(f, groups.len(), threshold);
+    rows::union(&groups[..k])
 }

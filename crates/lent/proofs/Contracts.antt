@@ -169,7 +169,7 @@ module _ {e : Edition} {s t s' t' : List ℕ} {cs : List Call} {rs : List Result
   pub calls-exact : Marked e → Exact e (sitesIn (e .litres) t) cs (map replied rs) (stateIn e s' t')
   calls-exact m = exact m calls-history (calls-bytes calls)
 
--- Two stores that hold the same list after such calls: each W, q, w × q and difference that both answer is the same.
+-- Two stores that hold the same list after such calls: each W, q, w × q, difference and set of depots that both answer is the same.
 pub calls-same-figures : {e d : Edition} {s t s' t' u v u' v' : List ℕ} {cs ds : List Call} {rs ts : List Result} → Marked e → Marked d → Freshened e s
     → Calls e s t cs rs s' t' → Freshened d u → Calls d u v ds ts u' v' → modelOf (stateIn e s' t') .list ≡ modelOf (stateIn d u' v') .list
     → SameFigures (stateIn e s' t') (stateIn d u' v')

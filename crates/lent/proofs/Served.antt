@@ -27,7 +27,7 @@ use Rattle.held_state.specs.declared.Summary.{Summary}
 use Rattle.held_state.specs.Held.{State, on, listOf, badSite}
 use Rattle.held_state.specs.Values.{BadKnown, Stands}
 use Rattle.store.specs.declared.Request.{Request}
-use Rattle.store.specs.declared.Request.the-variants.{Load, Change, Add, Propose, Share, Depot, Difference, Written}
+use Rattle.store.specs.declared.Request.the-variants.{Load, Change, Add, Propose, Share, Depot, Difference, Written, AtLeast}
 use Rattle.store.specs.Calls.{Call, Reply, Told, same, done}
 use Rattle.store.specs.Model.{withLitres}
 use Rattle.store.specs.State.{Done, bare, next, stays, effectOf, refusal, settle, step}
@@ -134,6 +134,7 @@ module _ (s : State) (c : Call) where
   asks-by none (Depot d) h = (refl, refl)
   asks-by none (Difference a d) h = (refl, refl)
   asks-by none Written h = (refl, refl)
+  asks-by none (AtLeast m) h = (refl, refl)
 
 -- ---- a call
 

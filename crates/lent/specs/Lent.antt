@@ -6,7 +6,7 @@ use Prim.Native.Nat.{ℕ}
 use lib.ListN.{length}
 use Rattle.records.specs.Bytes.{Bytes}
 use Rattle.records.specs.declared.Edition.{Edition}
-use Rattle.store.specs.Calls.{Call, Reply, Told, refused, done, shared, loaded, differ, wrote}
+use Rattle.store.specs.Calls.{Call, Reply, Told, refused, done, shared, loaded, differ, wrote, reached}
 use Rattle.held_state.specs.Held.{State, on}
 use Rattle.store.specs.State.{Done, bare, step}
 use Rattle.layout.specs.Layout.{storeBytes, isSized, storeIn, sitesIn, tableOver}
@@ -33,6 +33,7 @@ isKept (shared s w) = true
 isKept (loaded w q) = true
 isKept (differ d q) = true
 isKept (wrote n) = true
+isKept (reached x) = true
 
 abbrev pub lent : List ℕ → List ℕ → Reply → Lent
 lent s t r = record { store = s; table = t; reply = r }

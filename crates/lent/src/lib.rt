@@ -181,7 +181,7 @@ pub fn look(e: Edition, store: &[u8], table: &[u8], request: Request, buffer: &m
     answer(e, list, known, &groups, &shares, request, buffer)
 }
 
-// Any call.
+// Any call: the others are questions.
 pub fn call(
     e: Edition,
     store: &mut [u8],
@@ -205,9 +205,6 @@ pub fn call(
             add(e, store, table, x)
         }
         Request::Propose => propose(e, store, table, input),
-        Request::Share(_) => look(e, store, table, request, buffer),
-        Request::Depot(_) => look(e, store, table, request, buffer),
-        Request::Difference(_, _) => look(e, store, table, request, buffer),
-        Request::Written => look(e, store, table, request, buffer),
+        _ => look(e, store, table, request, buffer),
     }
 }

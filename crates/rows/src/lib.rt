@@ -42,7 +42,7 @@ fn groups_meet(groups: &[u64]) -> bool
 }
 
 // The depots of all groups together.
-fn union(groups: &[u64]) -> u64
+pub fn union(groups: &[u64]) -> u64
     ensures { λ r. ⌜ r ≡ setOf (union (now (groups .entry))) 64 ⌝ }
 {
     let mut seen: u64 = 0;

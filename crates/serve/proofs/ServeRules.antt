@@ -30,7 +30,7 @@ use Rattle.held_state.specs.Held.{State, listOf, corrupt, on}
 use Rattle.held_state.specs.Values.{Stands}
 use Rattle.held_state.proofs.Intact.{intact→, good-range}
 use Rattle.store.specs.declared.Request.{Request}
-use Rattle.store.specs.declared.Request.the-variants.{Load, Change, Add, Propose, Share, Depot, Difference, Written}
+use Rattle.store.specs.declared.Request.the-variants.{Load, Change, Add, Propose, Share, Depot, Difference, Written, AtLeast}
 use Rattle.store.specs.declared.Decision.{Decision}
 use Rattle.store.specs.declared.Answer.{Answer}
 use Rattle.store.specs.declared.Answer.the-variants as of
@@ -54,6 +54,7 @@ question-leaves none s c (Share i) h = refl
 question-leaves none s c (Depot d) h = refl
 question-leaves none s c (Difference a d) h = refl
 question-leaves none s c Written h = refl
+question-leaves none s c (AtLeast m) h = refl
 
 module _ (store : Store) (sites : List Site) (places : ℕ) where
   abbrev pub list : ListArray

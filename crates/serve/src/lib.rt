@@ -1,4 +1,4 @@
-// The eight calls of the store, on values: what a call that is lent a table of site structs decides.
+// The calls of the store, on values: what a call that is lent a table of site structs decides.
 use density::Site;
 use held_state::Store;
 use held_state::Summary;
@@ -157,7 +157,7 @@ fn ask(
     }
 }
 
-// Any call.
+// Any call: the others are questions.
 pub fn serve(
     e: Edition,
     store: Store,
@@ -182,9 +182,6 @@ pub fn serve(
             add(store, sites, places, x)
         }
         Request::Propose => propose(e, store, sites, places, input),
-        Request::Share(_) => ask(e, store, sites, places, request, buffer),
-        Request::Depot(_) => ask(e, store, sites, places, request, buffer),
-        Request::Difference(_, _) => ask(e, store, sites, places, request, buffer),
-        Request::Written => ask(e, store, sites, places, request, buffer),
+        _ => ask(e, store, sites, places, request, buffer),
     }
 }

@@ -181,5 +181,9 @@ has-set k X h d = T-ext (has (setOf X k) d) (X d) (λ t. of-setOf k X d t .1) (�
 pub setOf-is : (k : ℕ) {x : ℕ} (X : Depots) → x < 2 ^ k → ((d : ℕ) → d < k → has x d ≡ X d) → x ≡ setOf X k
 setOf-is k X h e = ext-below k h (setOf-lt k X) (λ d l. e d l ∙ sym (has-setOf k X d l))
 
+-- sets with the same depots have the same number
+pub setOf-cong : (X Y : Depots) (k : ℕ) → ((d : ℕ) → d < k → X d ≡ Y d) → setOf X k ≡ setOf Y k
+setOf-cong X Y k e = setOf-is k Y (setOf-lt k X) (λ d l. has-setOf k X d l ∙ e d l)
+
 pub setOf-has : (k : ℕ) {x : ℕ} → x < 2 ^ k → setOf (has x) k ≡ x
 setOf-has k {x} h = sym (setOf-is k (has x) h (λ d l. refl))

@@ -7,7 +7,7 @@ use native.Mathlib.Nat.{add-zero, le-trans, not-suc-le-zero, le-of-suc-le-suc, z
 use native.Mathlib.Numerals.{add-one}
 use native.Mathlib.Omega.{arith}
 use lib.Count.{ones, ones-step, ones-le, trailingZeros, under}
-use lib.Dec.{T, eqb, T-not, not-T}
+use lib.Dec.{T, eqb, ltb, ltb→lt, nltb→le, T-not, not-T}
 use Rattle.sets.specs.Sum.{when, sum, any}
 use Rattle.sets.specs.Set.{Depots, only, _∪_, _∩_, _∖_, _⊆_, Apart, has, weigh, cardinality, lowest}
 use Rattle.sets.proofs.Test.{T?, and-l, and-r, passes, eqb-swap, cond-on, when-on, when-off, when-≤, when-mono, when-cong}
@@ -145,6 +145,31 @@ lowest-has X (suc k) (suc d) l t = go (X 0) (lowest (λ e. X (suc e)) k) refl (l
     go : (b : Bool) (n : ℕ) → X 0 ≡ b → T (X (suc n)) → T (X (cond b 0 (suc n)))
     go true n e u = passes (X 0) e
     go false n e u = u
+
+pub lowest-hit : (X : Depots) (k : ℕ) → lowest X k < k → T (X (lowest X k))
+unfolding lowest
+lowest-hit X zero h = absurd (not-suc-le-zero h)
+lowest-hit X (suc k) h = go (X 0) (lowest (λ e. X (suc e)) k) refl h (lowest-hit (λ e. X (suc e)) k)
+  where
+    go : (b : Bool) (n : ℕ) → X 0 ≡ b → cond b 0 (suc n) < suc k → (n < k → T (X (suc n))) → T (X (cond b 0 (suc n)))
+    go true n e l f = passes (X 0) e
+    go false n e l f = f (le-of-suc-le-suc l)
+
+-- it is the depot before which X has none, and k where X has none
+pub lowest-first : (X : Depots) (k d : ℕ) → d < k → T (X d) → ((e : ℕ) → e < d → T (X e) → ⊥) → lowest X k ≡ d
+lowest-first X k d l t none =
+    let low = lowest X k in
+    ⊎-elim (λ u. absurd (none low (ltb→lt low d u) (lowest-has X k d l t)))
+    (λ n.
+    ⊎-elim (λ u. absurd (lowest-least X k d (ltb→lt d low u) t))
+    (λ m. let a = nltb→le low d (not-T (ltb low d) n) in let b = nltb→le d low (not-T (ltb d low) m) in omega arith) (T? (ltb d low)))
+    (T? (ltb low d))
+
+pub lowest-none : (X : Depots) (k : ℕ) → ((e : ℕ) → e < k → T (X e) → ⊥) → lowest X k ≡ k
+lowest-none X k none =
+    let low = lowest X k in
+    ⊎-elim (λ u. let l = ltb→lt low k u in absurd (none low l (lowest-hit X k l)))
+    (λ n. let a = nltb→le low k (not-T (ltb low k) n) in let b = lowest-le X k in omega arith) (T? (ltb low k))
 
 pub lowest-cong : (X Y : Depots) (k : ℕ) → ((d : ℕ) → d < k → X d ≡ Y d) → lowest X k ≡ lowest Y k
 unfolding lowest

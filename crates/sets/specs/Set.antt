@@ -60,7 +60,7 @@ weigh c X k = sum (λ d. when (X d) (c d)) k
 unfoldable pub cardinality : Depots → ℕ → ℕ
 cardinality X k = weigh (λ d. 1) X k
 
--- the lowest depot of X below k, or k where there is none
+-- the lowest number of X below k, or k where there is none
 unfoldable pub lowest : Depots → ℕ → ℕ
 lowest X zero = 0
 lowest X (suc k) = cond (X 0) 0 (suc (lowest (λ d. X (suc d)) k))

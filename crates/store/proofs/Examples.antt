@@ -1,4 +1,4 @@
--- T, two own sites of 4 and two sites of one pair: histories with their replies, the rows of every call among them, and replies of wrong stores, which no model gives. Assumes nothing.
+-- T, two own sites of 4, two sites of one pair, and thresholds: histories with their replies, the rows of every call among them, and replies of wrong stores, which no model gives. Assumes nothing.
 use mathlib.Core.Path.{_≡_, refl, sym, ap, ap₂, _∙_, subst}
 use mathlib.Core.Logic.{inl, inr, ⊎-elim}
 use mathlib.Core.Bool.{Bool, true, _&&_}
@@ -6,11 +6,11 @@ use mathlib.Core.List.{List, [], _∷_, _++_, flatMap}
 use mathlib.Core.Option.{Option, none, some, Option·none-ne-some}
 use Prim.Native.Nat.{ℕ, zero, suc, _<_, _≤_, _*_, _^_}
 use native.Mathlib.Omega.{arith}
-use lib.Dec.{T, not-T, ltb, ltb→lt, nltb→le, lit<, lit≤}
+use lib.Dec.{T, not-T, eqb, eqb→eq, ltb, ltb→lt, nltb→le, lit<, lit≤}
 use lib.IntN.{pos}
 use lib.ListN.{length, getD, replicate, List·getD-eq-default}
 use Rattle.sets.specs.Sum.{sum, all, any}
-use Rattle.sets.specs.Set.{has, weigh}
+use Rattle.sets.specs.Set.{has, setOf, weigh, lowest}
 use Rattle.sets.proofs.Test.{T?, and-l, and-r}
 use Rattle.sets.proofs.Sum.{all-at}
 use Rattle.density.specs.declared.Site.{Site}
@@ -18,11 +18,12 @@ use Rattle.density.specs.Network.{Listing, Network, network, depotsInRange, siz
 use Rattle.density.specs.Groups.{Decomposition}
 use Rattle.density.specs.Plan.{union, place, carrier, groupSize, groupLitres, whole, firstShare, secondShare, shareOf, target, TruePlan}
 use Rattle.density.specs.Rows.{firstRow, groupsMeet, groupsUnlisted, shareBroken, sharesBroken, scaledLoad, loadsUneven, groupsRise, planRows}
-use Rattle.density.specs.Figures.{depotLitres, depotSize, difference, divisor, differenceOf}
+use Rattle.density.specs.Figures.{depotLitres, depotSize, difference, divisor, differenceOf, groupsRead, depotsRead}
 use Rattle.density.specs.Examples.{pair, starred}
 use Rattle.density.proofs.Examples.{starred-known}
 use Rattle.density.proofs.Lists.{valid}
 use Rattle.density.proofs.Figures.{depot-litres, depot-size, site-whole}
+use Rattle.density.proofs.AtLeast.{read-is}
 use Rattle.records.specs.Bytes.{Bytes, value, le}
 use Rattle.records.specs.Record.{records}
 use Rattle.records.specs.Values.{Plan}
@@ -31,13 +32,13 @@ use Rattle.records.specs.Write.{planBytes}
 use Rattle.records.specs.Samples.{listT}
 use Rattle.records.proofs.Samples.{marked1}
 use Rattle.store.specs.declared.Request.{Request}
-use Rattle.store.specs.declared.Request.the-variants.{Load, Change, Add, Propose, Share, Depot, Difference, Written}
-use Rattle.store.specs.Calls.{Call, Reply, refused, done, shared, loaded, differ, wrote}
+use Rattle.store.specs.declared.Request.the-variants.{Load, Change, Add, Propose, Share, Depot, Difference, Written, AtLeast}
+use Rattle.store.specs.Calls.{Call, Reply, refused, done, shared, loaded, differ, wrote, reached}
 use Rattle.judge.specs.Check.{True}
 use Rattle.store.specs.Model.{Model, emptyModel, Proposes, turned, turn, modelRows, proposalRows}
 use Rattle.held_state.specs.Held.{State}
 use Rattle.store.specs.State.{modelOf}
-use Rattle.store.specs.Examples.{call, reply, model, plansT, callsT, repliesT, sitesT, loadedT, plannedT, listO, callsO, repliesO, sitesO, loadedO, plannedO, listP, planP, callsP, repliesP, sitesP, loadedP, plannedP, callsR, repliesR, nth}
+use Rattle.store.specs.Examples.{call, reply, model, plansT, callsT, repliesT, sitesT, loadedT, plannedT, listO, callsO, repliesO, sitesO, loadedO, plannedO, listP, planP, callsP, repliesP, sitesP, loadedP, plannedP, callsR, repliesR, listM, planM, callsM, repliesM, sitesM, loadedM, plannedM, thresholdsM, setsM, nth}
 use Rattle.store.specs.Trace.{start, then, History, Modelled, AllBytes, lastPassed}
 use Rattle.store.proofs.Plans.{true-of-rows, rows-of-true}
 use Rattle.store.proofs.OneModel.{one-model}
@@ -297,6 +298,58 @@ modelled-R =
     (then add-6
     (then adds (then add-2 (then loads-again (then accepts-T (then share-18 (then depot-19 (then difference-19 (then written-20 start)))))))))))))
 
+-- ---- thresholds
+
+loads-M : turned loadedM (reply done []) ≡ turn emptyT (call Load listM [])
+unfolding firstRow value records any
+loads-M = refl
+
+wants-M : Leaves loadedM (AtLeast 0) [] 17
+unfolding firstRow
+wants-M = refl
+
+true-plan-M : TruePlan (network sitesM) (3 ∷ 4 ∷ []) (9 ∷ 0 ∷ [])
+unfolding starred
+true-plan-M = starred-known 8 (lit< tt) .plan
+
+accepts-M : Proposes loadedM (call Propose planM []) (reply done []) plannedM
+unfolding planBytes le flatMap
+accepts-M = inl (record { groups = 3 ∷ 4 ∷ []; shares = 9 ∷ 0 ∷ [] }, laid sitesM (3 ∷ 4 ∷ []) (9 ∷ 0 ∷ []) true-plan-M (lit≤ tt) fits, refl, refl)
+  where
+    fits : (i : ℕ) → i < 2 → getD (9 ∷ 0 ∷ []) i 0 < 256 ^ 4
+    fits zero h = lit< tt
+    fits (suc zero) h = lit< tt
+    fits (suc (suc i)) h = absurd (let z : ⊥ = omega arith in z)
+
+in-range-M : T (depotsInRange sitesM)
+unfolding depotsInRange all
+in-range-M = tt
+
+-- the model's answer to a threshold, by the groups of the plan
+abbrev Answers : ℕ → ℕ → Type 0
+Answers m x = turned plannedM (reply (reached x) []) ≡ turn plannedM (call (AtLeast m) [] [])
+
+by-groups : (m x : ℕ) → setOf (depotsRead (network sitesM) (3 ∷ 4 ∷ []) m) 64 ≡ x → Answers m x
+unfolding firstRow
+by-groups m x e = ap (λ (y : ℕ). turned plannedM (reply (reached y) [])) (sym e ∙ read-is (network sitesM) (valid sitesM in-range-M) (3 ∷ 4 ∷ []) (true-plan-M .groups) m)
+
+computed-M : T (all (λ k. eqb (setOf (depotsRead (network sitesM) (3 ∷ 4 ∷ []) (getD thresholdsM k 0)) 64) (getD setsM k 0)) (length thresholdsM))
+unfolding all setOf union has groupsRead lowest network sum weigh size place carrier groupSize groupLitres
+computed-M = tt
+
+answers-M : (k : ℕ) → k < length thresholdsM → Answers (getD thresholdsM k 0) (getD setsM k 0)
+answers-M k l = by-groups (getD thresholdsM k 0) (getD setsM k 0) (eqb→eq _ _ (all-at (λ k. eqb _ (getD setsM k 0)) (length thresholdsM) computed-M k l))
+
+modelled-M : Modelled edition1 2 callsM repliesM plannedM
+modelled-M =
+    then loads-M
+    (then wants-M
+    (then accepts-M
+    (then (answers-M 0 (lit< tt))
+    (then (answers-M 1 (lit< tt))
+    (then (answers-M 2 (lit< tt))
+    (then (answers-M 3 (lit< tt)) (then (answers-M 4 (lit< tt)) (then (answers-M 5 (lit< tt)) (then (answers-M 6 (lit< tt)) start)))))))))
+
 -- ---- the store's history has these replies
 
 -- what the model answers, the store answers on any table of two places
@@ -322,6 +375,10 @@ history-P = has-history callsP repliesP (plannedP 0 2) modelled-P (are-all calls
 pub history-R : (x y : Site) → (s : State) × History edition1 (x ∷ y ∷ []) callsR repliesR s × (modelOf s ≡ plannedT)
 unfolding inputs all
 history-R = has-history callsR repliesR plannedT modelled-R (are-all callsR tt)
+
+pub history-M : (x y : Site) → (s : State) × History edition1 (x ∷ y ∷ []) callsM repliesM s × (modelOf s ≡ plannedM)
+unfolding inputs all
+history-M = has-history callsM repliesM plannedM modelled-M (are-all callsM tt)
 
 -- the proposal that passed last, by these calls and replies: of T its plan, of the own sites none after the change, of the pair the second
 pub last-T : lastPassed none callsT repliesT ≡ some (plansT 0x0A)
@@ -380,3 +437,19 @@ module _ (rs : List Reply) (b : Model) (run : Modelled edition1 2 callsO rs b) w
   -- "Keeping the held plan when only one site's litres changed"
   pub not-kept : (w q : ℕ) → nth 5 rs ≡ loaded w q → ⊥
   not-kept w q h = let e : refused 17 ≡ loaded w q = is-O 5 ∙ h in let z : _≡_ {A = ℕ} 0 1 = cc in omega arith
+
+module _ (rs : List Reply) (b : Model) (run : Modelled edition1 2 callsM rs b) where
+  is-M : (i : ℕ) → nth i repliesM ≡ nth i rs
+  is-M i = ap (nth i) (one-model modelled-M run .0)
+
+  -- "at least": depot 2, whose W/q is 1 exactly, reaches 1
+  pub not-strict : (x : ℕ) → nth 4 rs ≡ reached x → x ≡ 7
+  not-strict x h = let e : reached 7 ≡ reached x = is-M 4 ∙ h in cc
+
+  -- nothing is rounded: 9/2 is below 5
+  pub not-rounded : (x : ℕ) → nth 7 rs ≡ reached x → x ≡ 0
+  not-rounded x h = let e : reached 0 ≡ reached x = is-M 7 ∙ h in cc
+
+  -- a threshold has more than 16 bits
+  pub not-16-bits : (x : ℕ) → nth 8 rs ≡ reached x → x ≡ 0
+  not-16-bits x h = let e : reached 0 ≡ reached x = is-M 8 ∙ h in cc

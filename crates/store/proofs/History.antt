@@ -9,13 +9,15 @@ use native.Mathlib.Omega.{arith}
 use lib.Dec.{leb, ltb}
 use lib.IntN.{ℤ}
 use lib.ListN.{length, getD, replicate, length-replicate}
+use Rattle.sets.specs.Set.{_⊆_, has, setOf}
 use Rattle.density.specs.declared.Site.{Site}
 use Rattle.density.specs.Network.{Listing, Network, network, noSite}
 use Rattle.density.specs.Groups.{Decomposition}
 use Rattle.density.specs.Plan.{place, groupLitres, groupSize, whole}
 use Rattle.density.specs.Rows.{firstRow}
-use Rattle.density.specs.Figures.{depotLitres, depotSize, siteWhole, difference, divisor, differenceOf}
+use Rattle.density.specs.Figures.{depotLitres, depotSize, siteWhole, difference, divisor, differenceOf, atLeast, atLeastBy}
 use Rattle.density.proofs.Figures.{depot-litres, depot-size, site-whole}
+use Rattle.density.proofs.AtLeast.{by-is, every-is, at-least-zero, at-least-fewer}
 use Rattle.records.specs.declared.Edition.{Edition}
 use Rattle.records.specs.Bytes.{Bytes}
 use Rattle.records.specs.Values.{Plan}
@@ -23,8 +25,8 @@ use Rattle.records.specs.Format.{edition1, planOf}
 use Rattle.records.specs.Write.{planBytes, onto, All, Marked}
 use Rattle.records.proofs.Samples.{marked1}
 use Rattle.store.specs.declared.Request.{Request}
-use Rattle.store.specs.declared.Request.the-variants.{Load, Change, Add, Propose, Share, Depot, Difference, Written}
-use Rattle.store.specs.Calls.{Call, Reply, Told, refused, done, shared, loaded, differ, wrote}
+use Rattle.store.specs.declared.Request.the-variants.{Load, Change, Add, Propose, Share, Depot, Difference, Written, AtLeast}
+use Rattle.store.specs.Calls.{Call, Reply, Told, refused, done, shared, loaded, differ, wrote, reached}
 use Rattle.judge.specs.Check.{True}
 use Rattle.store.specs.Model.{Model, missing, held, count, unlisted, rowsOf, modelRows, Turn, Turns, Proposes, SaysOf, Says, grantOf, settled, turned}
 use Rattle.held_state.specs.Held.{State, planHeld, listOf, corrupt}
@@ -44,13 +46,13 @@ record Reached (s : State) (calls : List Call) (replies : List Reply) (s' : Stat
   places : length (s' .table) ≡ length (s .table)
   never-zero : All (λ (r : Reply). r .answer ≡ refused 0 → ⊥) replies
 
-reached : {s s' : State} {calls : List Call} {replies : List Reply} → Run Steps s calls replies s' → Marked (s .edition) → Holds s → AllBytes calls
+run-reached : {s s' : State} {calls : List Call} {replies : List Reply} → Run Steps s calls replies s' → Marked (s .edition) → Holds s → AllBytes calls
     → Reached s calls replies s'
 unfolding AllBytes
-reached start m h b = record { model = start; holds = h; edition = refl; places = refl; never-zero = tt }
-reached (then {s = s} {s₁ = s₁} {c = c} {r = r} x xs) m h b =
+run-reached start m h b = record { model = start; holds = h; edition = refl; places = refl; never-zero = tt }
+run-reached (then {s = s} {s₁ = s₁} {c = c} {r = r} x xs) m h b =
     let k = kept s c m h (fed (c .request) (c .input) (b .0)) r s₁ x in
-    let rest = reached xs (subst Marked (sym (k .edition)) m) (k .holds) (b .1) in
+    let rest = run-reached xs (subst Marked (sym (k .edition)) m) (k .holds) (b .1) in
     record {
       model = then (k .says) (rest .model);
       holds = rest .holds;
@@ -83,6 +85,7 @@ module _ (s : State) (c : Call) where
   wants Written h =
       seventeen s c Written (planHeld s) 20 (λ e. omega arith)
       (ltb (length (c .buffer)) (length (planBytes (s .edition) (held (modelOf s .plan))))) (s .store .held)
+  wants (AtLeast m) h = seventeen s c (AtLeast m) (planHeld s) 18 (λ e. omega arith) false (s .store .held)
 
   question : corrupt s ≡ false → (r : Reply) (s' : State) → Question (c .request) → Steps s c r s' → (r .answer ≡ refused 17) ↔ (s .store .held ≡ false)
   question h r s' q x =
@@ -100,6 +103,7 @@ Answered (shared s w) = Unit {0}
 Answered (loaded w q) = Unit {0}
 Answered (differ d q) = Unit {0}
 Answered (wrote n) = Unit {0}
+Answered (reached x) = Unit {0}
 
 -- where a question is answered, a proposal has passed
 some-passed : {a b : Told} (o : Option (List ℕ)) → (a ≡ refused 17) ↔ (o ≡ none) → a ≡ b → Answered b → (bytes : List ℕ) × (o ≡ some bytes)
@@ -137,6 +141,12 @@ module _ (b : Model) (c : Call) (r : Reply) (b' : Model) where
   differ-is x y z q none e a = (cc, cc)
   differ-is x y z q (some n) e a = absurd (let z : _≡_ {A = ℕ} 0 1 = cc in omega arith)
 
+  -- with a plan no row refuses a threshold
+  reached-is : (m : ℕ) {p : Plan} → b .plan ≡ some p → r .answer ≡ answerTo (AtLeast m) (firstRow (rowsOf b c (AtLeast m)))
+      → r .answer ≡ reached (setOf (atLeast (network (b .list)) m) 64)
+  unfolding firstRow
+  reached-is m k e = e ∙ ap (λ (o : Option Plan). answerTo (AtLeast m) (cond (missing o) (some 17) none)) k
+
   wrote-is : (n : ℕ) (o : Option ℕ) → r ≡ replyTo Written o → r .answer ≡ wrote n
       → let out : List ℕ = planBytes (b .edition) (held (b .plan)) in
       (n ≡ length out) × (r .buffer ≡ onto out (c .buffer))
@@ -172,7 +182,7 @@ module _ (s : State) (h : Holds s) (gs : List ℕ) (dec : Decomposition (network
 module _ {e : Edition} (m : Marked e) {table : List Site} {calls : List Call} {replies : List Reply} {s : State} (h : History e table calls replies s)
     (bytes : AllBytes calls) where
   final : Reached (fresh e table) calls replies s
-  final = reached h m (fresh-holds e table) bytes
+  final = run-reached h m (fresh-holds e table) bytes
 
   abbrev b : Model
   b = modelOf s
@@ -230,6 +240,19 @@ module _ {e : Edition} (m : Marked e) {table : List Site} {calls : List Call} {r
       let (bytes, l, p) = held-last c r s' (Share i) k tt x a tt in
       (bytes, l, site-says c i r s' y w k x a .0 ∙ ap (λ (m : Option Plan). getD (held m .shares) i 0) p)
 
+  -- with a plan the depots that reach a threshold are answered, by the definition on the list alone
+  reached-says : (c : Call) (n : ℕ) (r : Reply) (s' : State) (bytes : List ℕ) → c .request ≡ AtLeast n → Steps s c r s' → last ≡ some bytes
+      → r .answer ≡ reached (setOf (atLeast (network (b .list)) n) 64)
+  reached-says c n r s' bytes k x l =
+      reached-is b c r (modelOf s') n (plan-held ∙ ap (planFrom e (count b)) l) (answer-to b c r (modelOf s') (AtLeast n) k (says-to c r s' (AtLeast n) k tt x))
+
+  reached-so : (c : Call) (n : ℕ) (r : Reply) (s' : State) (y : ℕ) → c .request ≡ AtLeast n → Steps s c r s' → r .answer ≡ reached y
+      → y ≡ setOf (atLeast (network (b .list)) n) 64
+  reached-so c n r s' y k x a =
+      let (bytes, l, p) = held-last c r s' (AtLeast n) k tt x a tt in
+      let z = reached-says c n r s' bytes k x l in
+      cc
+
   -- "the book's plan stands at the front of the buffer byte for byte"
   written : (c : Call) (r : Reply) (s' : State) (n : ℕ) → c .request ≡ Written → Steps s c r s' → r .answer ≡ wrote n
       → (bytes : List ℕ) × (last ≡ some bytes) × (n ≡ length bytes) × (r .buffer ≡ onto bytes (c .buffer))
@@ -268,6 +291,16 @@ module _ {e : Edition} (m : Marked e) {table : List Site} {calls : List Call} {r
             let g = difference-is s (final .holds) gs dec y d in
             (f .0 ∙ g .0, f .1 ∙ g .1);
         written-out = written;
+        at-least = λ c n r s' bytes k x l gs dec.
+            reached-says c n r s' bytes k x l ∙ ap reached (sym (by-is (network (b .list)) (holds-valid s (final .holds)) gs dec n));
+        every-group = λ c n r s' bytes k x l.
+            reached-says c n r s' bytes k x l
+            ∙ ap reached (sym (every-is (network (b .list)) (holds-valid s (final .holds)) _ (backed-true e (b .list) last (b .plan) bytes backed l .groups) n));
+        zero-gives-all = λ c r s' bytes k x l. reached-says c 0 r s' bytes k x l ∙ ap reached (at-least-zero (network (b .list)));
+        higher-gives-fewer = λ c c' n n' r r' s₁ s₂ y y' k k' x x' a a' l.
+            subst (λ (z : ℕ). has y' ⊆ has z) (sym (reached-so c n r s₁ y k x a))
+            (subst (λ (z : ℕ). has z ⊆ has (setOf (atLeast (network (b .list)) n) 64)) (sym (reached-so c' n' r' s₂ y' k' x' a'))
+            (at-least-fewer (network (b .list)) n n' l));
       }
 
 -- Every list of calls has a history.
@@ -345,7 +378,7 @@ decomposed {e} {calls = calls} {replies = replies} {s = s} x c r s' q k h y a g 
     let (bytes, l) = some-passed (lastPassed none calls replies) (x .wanting c r s' (subst Question (sym k) h) y) a g in
     (planOf e (count (modelOf s)) bytes .groups, x .plan-true bytes l .groups)
 
--- Two stores that hold the same list, of whatever histories: each W, q, w × q and difference that both answer is the same.
+-- Two stores that hold the same list, of whatever histories: each W, q, w × q, difference and set of depots that both answer is the same.
 pub same-figures : {e₁ e₂ : Edition} {t₁ t₂ : List Site} {cs₁ cs₂ : List Call} {rs₁ rs₂ : List Reply} {s₁ s₂ : State}
     → Exact e₁ t₁ cs₁ rs₁ s₁ → Exact e₂ t₂ cs₂ rs₂ s₂ → modelOf s₁ .list ≡ modelOf s₂ .list → SameFigures s₁ s₂
 same-figures {s₁ = s₁} {s₂ = s₂} x y l =
@@ -367,6 +400,14 @@ same-figures {s₁ = s₁} {s₂ = s₂} x y l =
           let W : Listing → ℕ → ℕ = λ l x. groupLitres (network l) gs (place gs x) in
           let Q : Listing → ℕ → ℕ = λ l x. groupSize (network l) gs (place gs x) in
           (f₁ .0 ∙ ap (λ l. differenceOf (W l a) (Q l a) (W l d) (Q l d)) l ∙ sym (f₂ .0), f₁ .1 ∙ ap (λ l. Q l a * Q l d) l ∙ sym (f₂ .1));
+      at-least = λ c₁ c₂ m r₁ r₂ s₁' s₂' x₁ x₂ k₁ k₂ y₁ y₂ a₁ a₂.
+          let (gs, dec) = decomposed x c₁ r₁ s₁' (AtLeast m) k₁ tt y₁ a₁ tt in
+          let (bytes₁, l₁) = some-passed _ (x .wanting c₁ r₁ s₁' (subst Question (sym k₁) tt) y₁) a₁ tt in
+          let (bytes₂, l₂) = some-passed _ (y .wanting c₂ r₂ s₂' (subst Question (sym k₂) tt) y₂) a₂ tt in
+          let f₁ = x .at-least c₁ m r₁ s₁' bytes₁ k₁ y₁ l₁ gs dec in
+          let f₂ = y .at-least c₂ m r₂ s₂' bytes₂ k₂ y₂ l₂ gs (over l gs dec) in
+          let z = ap (λ (l : Listing). reached (setOf (atLeastBy (network l) gs m) 64)) l in
+          cc;
     }
   where
     over : {l l' : Listing} → l ≡ l' → (gs : List ℕ) → Decomposition (network l) gs → Decomposition (network l') gs

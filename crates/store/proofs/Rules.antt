@@ -5,16 +5,20 @@ use mathlib.Core.Bool.{Bool, true, false, cond, _&&_, false≢true}
 use mathlib.Core.List.{List, [], _∷_, _++_}
 use mathlib.Core.Option.{Option, none, some, Option·none-ne-some, Option·some-ne-none, Option·some-injective}
 use Prim.Native.Nat.{ℕ, _<_}
+use types.Run.{OneOf, miss}
+use denote.Enum.Declared.{tagOf}
 use native.Mathlib.Omega.{arith}
 use lib.Dec.{T, ltb, ltb→lt}
 use Rattle.sets.proofs.Test.{and-l, and-r}
 use Rattle.density.specs.Rows.{Row, row, firstRow, planRows}
 use Rattle.store.specs.declared.Request.{Request}
-use Rattle.store.specs.declared.Request.the-variants.{Load, Change, Add, Propose, Share, Depot, Difference, Written}
+use Rattle.store.specs.declared.Request.the-variants.{Load, Change, Add, Propose, Share, Depot, Difference, Written, AtLeast}
 use Rattle.store.specs.Calls.{Call, refused}
 use Rattle.store.specs.Model.{Model, rowsOf}
 use Rattle.held_state.specs.Held.{State}
 use Rattle.store.specs.State.{Done, firstOf, settle, effectOf}
+use Rattle.store.specs.Trace.{Question}
+use Rattle.store.proofs.Request.{the-type}
 
 -- ---- rows behind rows
 
@@ -62,9 +66,26 @@ rows-positive b c (Share i) = tt
 rows-positive b c (Depot d) = tt
 rows-positive b c (Difference a d) = tt
 rows-positive b c Written = tt
+rows-positive b c (AtLeast m) = tt
 
 pub never-row-zero : (b : Model) (c : Call) (q : Request) → firstRow (rowsOf b c q) ≡ some 0 → ⊥
 never-row-zero b c q e = omega (arith, first-positive (rowsOf b c q) (rows-positive b c q) 0 e)
+
+-- ---- the requests behind the fourth are questions
+
+abbrev others : List ℕ
+others = 4 ∷ 5 ∷ 6 ∷ 7 ∷ 8 ∷ []
+
+pub others-ask : (q : Request) → OneOf others (tagOf the-type q) → Question q
+others-ask Load h = miss others 0 tt h
+others-ask (Change i w) h = miss others 1 tt h
+others-ask (Add f d w) h = miss others 2 tt h
+others-ask Propose h = miss others 3 tt h
+others-ask (Share i) h = tt
+others-ask (Depot d) h = tt
+others-ask (Difference a d) h = tt
+others-ask Written h = tt
+others-ask (AtLeast m) h = tt
 
 -- ---- answers
 
@@ -78,6 +99,7 @@ granted-not-refused s c (Share i) n e = let z : _≡_ {A = ℕ} 0 1 = cc in omeg
 granted-not-refused s c (Depot d) n e = let z : _≡_ {A = ℕ} 0 1 = cc in omega arith
 granted-not-refused s c (Difference a d) n e = let z : _≡_ {A = ℕ} 0 1 = cc in omega arith
 granted-not-refused s c Written n e = let z : _≡_ {A = ℕ} 0 1 = cc in omega arith
+granted-not-refused s c (AtLeast m) n e = let z : _≡_ {A = ℕ} 0 1 = cc in omega arith
 
 module _ (s : State) (c : Call) (d : Done) where
   pub zero-answer : (z : Bool) (o : Option ℕ) → (o ≡ some 0 → ⊥) → (d .reply .answer ≡ refused 0 → ⊥)

@@ -19,14 +19,15 @@ use Rattle.density.specs.Rows.{firstRow, groupsMeet, groupsUnlisted, sharesBrok
 use Rattle.density.specs.Figures.{depotLitres, depotSize, difference, divisor, differenceOf}
 use Rattle.density.proofs.Rows.{Clear, →clear}
 use Rattle.density.proofs.Figures.{depot-litres, depot-size, site-whole}
+use Rattle.density.proofs.AtLeast.{read-is}
 use Rattle.records.specs.declared.Edition.{Edition}
 use Rattle.records.specs.Bytes.{Bytes}
 use Rattle.records.specs.Values.{Plan}
 use Rattle.records.specs.Format.{sitesOf, layoutRows, planOf}
 use Rattle.records.specs.Write.{planBytes, onto, Marked}
 use Rattle.store.specs.declared.Request.{Request}
-use Rattle.store.specs.declared.Request.the-variants.{Load, Change, Add, Propose, Share, Depot, Difference, Written}
-use Rattle.store.specs.Calls.{Call, Reply, same, refused, done, shared, loaded, differ, wrote}
+use Rattle.store.specs.declared.Request.the-variants.{Load, Change, Add, Propose, Share, Depot, Difference, Written, AtLeast}
+use Rattle.store.specs.Calls.{Call, Reply, same, refused, done, shared, loaded, differ, wrote, reached}
 use Rattle.judge.specs.Check.{True}
 use Rattle.store.specs.Model.{Model, Says, listed, planned, missing, held, count, rowsOf, modelRows, proposalRows, withLitres, grantOf, settled, turned, turn}
 use Rattle.held_state.specs.Held.{State, listOf, planHeld, badPlan, corrupt, litresAt, sizeAt}
@@ -65,6 +66,7 @@ row-model b c (Share i) = refl
 row-model b c (Depot d) = refl
 row-model b c (Difference a d) = refl
 row-model b c Written = refl
+row-model b c (AtLeast m) = refl
 
 -- ---- a state without a plan
 
@@ -110,6 +112,7 @@ Fed (Share i) s = Unit {0}
 Fed (Depot d) s = Unit {0}
 Fed (Difference a d) s = Unit {0}
 Fed Written s = Unit {0}
+Fed (AtLeast m) s = Unit {0}
 
 pub fed : (q : Request) (s : List ℕ) → Bytes s → Fed q s
 fed Load s b = tt
@@ -120,6 +123,7 @@ fed (Share i) s b = tt
 fed (Depot d) s b = tt
 fed (Difference a d) s b = tt
 fed Written s b = tt
+fed (AtLeast m) s b = tt
 
 plan-clear : (e : Edition) (l : Listing) (s : List ℕ) → firstRow (proposalRows e l s) ≡ none → T (badPlan l (planOf e (length (l .sites)) s)) → ⊥
 unfolding Clear planRows
@@ -278,6 +282,12 @@ module _ (s : State) (h : Holds s) (input buffer : List ℕ) where
       (ap (λ (p : Plan). turned b (record { answer = wrote (length (planBytes (s .edition) p)); buffer = onto (planBytes (s .edition) p) buffer }))
       (sym (held-is (s .store .held) (planHeld s) t))
       ∙ sym (turn-granted b (call Written) e))
+  granted (AtLeast m) f e =
+      let c = →clear (rowsOf b (call (AtLeast m)) (AtLeast m)) e in
+      let t = not-missing (s .store .held) (planHeld s) (c .0) in
+      asked (AtLeast m) (effectOf s (call (AtLeast m)) (AtLeast m) .reply)
+      (ap (λ (x : ℕ). turned b (same (call (AtLeast m)) (reached x))) (read-is (network (listOf s)) ok (planHeld s .groups) (h .plan t .groups) m)
+      ∙ sym (turn-granted b (call (AtLeast m)) e))
 
   -- a call that a row refuses
   refuses : Marked (s .edition) → (q : Request) (k : ℕ) → firstRow (rowsOf b (call q) q) ≡ some k → Kept s (call q) (stays s (same (call q) (refused k)))
@@ -292,6 +302,7 @@ module _ (s : State) (h : Holds s) (input buffer : List ℕ) where
   refuses m (Depot d) k e = asked (Depot d) _ (sym (turn-refused b (call (Depot d)) k e))
   refuses m (Difference a d) k e = asked (Difference a d) _ (sym (turn-refused b (call (Difference a d)) k e))
   refuses m Written k e = asked Written _ (sym (turn-refused b (call Written) k e))
+  refuses m (AtLeast n) k e = asked (AtLeast n) _ (sym (turn-refused b (call (AtLeast n)) k e))
 
   decided : Marked (s .edition) → (q : Request) → Fed q input → (o : Option ℕ) → firstRow (rowsOf b (call q) q) ≡ o
       → Kept s (call q) (settle o s (call q) (effectOf s (call q) q))

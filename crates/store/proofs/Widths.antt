@@ -13,7 +13,7 @@ use Rattle.records.specs.Record.{records}
 use Rattle.records.specs.Format.{siteSize, siteCount, siteOf, sitesOf, shareSize, groupCount, bodyOf}
 use Rattle.records.proofs.Bytes.{bytes-take, bytes-drop, field-small}
 use Rattle.store.specs.declared.Request.{Request}
-use Rattle.store.specs.declared.Request.the-variants.{Load, Change, Add, Propose, Share, Depot, Difference, Written}
+use Rattle.store.specs.declared.Request.the-variants.{Load, Change, Add, Propose, Share, Depot, Difference, Written, AtLeast}
 use Rattle.store.specs.Calls.{Call}
 use Rattle.store.specs.Model.{withLitres}
 use Rattle.store.specs.Widths.{Named, Fits}
@@ -105,6 +105,7 @@ module _ (m : ℕ) (s : State) (h : Fits m s) (c : Call) (bytes : Bytes (c .inpu
   effect-fits (Depot d) n = h
   effect-fits (Difference a d) n = h
   effect-fits Written n = h
+  effect-fits (AtLeast m) n = h
 
   settle-fits : (o : Option ℕ) (d : Done) → Fits m (d .after) → Fits m (settle o s c d .after)
   settle-fits none d f = f

@@ -13,7 +13,7 @@ pub record Call : Type 0 where
   pub buffer : List ℕ
 
 -- What a call answers: "A refusal is its number and no other figure"; success; "a site's s and w × q"; "a depot's W and q"; the difference "with
--- the divisor"; the length written.
+-- the divisor"; the length written; a set of depots (document 02, a).
 pub data Told : Type 0 where
   refused : ℕ → Told
   done : Told
@@ -21,6 +21,7 @@ pub data Told : Type 0 where
   loaded : ℕ → ℕ → Told
   differ : ℤ → ℕ → Told
   wrote : ℕ → Told
+  reached : ℕ → Told
 
 -- the paper's number and values for each case of the answer
 abbrev pub told : Answer → Told
@@ -30,6 +31,7 @@ told (of.Share s w) = shared s w
 told (of.Depot w q) = loaded w q
 told (of.Difference d q) = differ d q
 told (of.Length n) = wrote n
+told (of.Reached x) = reached x
 
 -- An answer, and the buffer as it then is.
 pub record Reply : Type 0 where

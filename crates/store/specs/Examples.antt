@@ -1,6 +1,6 @@
 -- Document 01: histories of T, of two own sites of 4 and of two sites of one pair on a table of two places, with their replies, the rows of every call
--- among them.
-use mathlib.Core.List.{List, [], _∷_, _++_}
+-- among them. Document 02, a: a history of thresholds.
+use mathlib.Core.List.{List, [], _∷_, _++_, map}
 use mathlib.Core.Option.{Option, none, some}
 use Prim.Native.Nat.{ℕ}
 use lib.IntN.{pos}
@@ -13,8 +13,8 @@ use Rattle.records.specs.Format.{edition1}
 use Rattle.records.specs.Samples.{listT}
 use Rattle.judge.specs.Refusals.{group, share}
 use Rattle.store.specs.declared.Request.{Request}
-use Rattle.store.specs.declared.Request.the-variants.{Load, Change, Add, Propose, Share, Depot, Difference, Written}
-use Rattle.store.specs.Calls.{Call, Reply, Told, refused, done, shared, loaded, differ, wrote}
+use Rattle.store.specs.declared.Request.the-variants.{Load, Change, Add, Propose, Share, Depot, Difference, Written, AtLeast}
+use Rattle.store.specs.Calls.{Call, Reply, Told, refused, done, shared, loaded, differ, wrote, reached}
 use Rattle.store.specs.Model.{Model}
 
 abbrev pub call : Request → List ℕ → List ℕ → Call
@@ -160,6 +160,44 @@ repliesR =
     ∷ reply (refused 19) []
     ∷ reply (refused 20) (replicate 20 7)
     ∷ []
+
+-- ---- thresholds: (0,1) of 9 and (1,2) of 1, where W/q is 9/2 of depots 0 and 1, and 1 of depot 2. 65,537 is 1 in 16 bits.
+abbrev pub thresholdsM : List ℕ
+thresholdsM = 0 ∷ 1 ∷ 2 ∷ 4 ∷ 5 ∷ 65537 ∷ 4294967295 ∷ []
+
+-- {0,1,2} is 7, {0,1} 3
+abbrev pub setsM : List ℕ
+setsM = 7 ∷ 7 ∷ 3 ∷ 3 ∷ 0 ∷ 0 ∷ 0 ∷ []
+
+abbrev pub listM : List ℕ
+listM =
+    0x4C ∷ 0x53 ∷ 0x02 ∷ 0x00 ∷ 0x53 ∷ 0x54 ∷ 0x00 ∷ 0x01 ∷ 0x09 ∷ 0x00 ∷ 0x53 ∷ 0x54 ∷ 0x01 ∷ 0x02 ∷ 0x01 ∷ 0x00 ∷ []
+
+abbrev pub planM : List ℕ
+planM = 0x50 ∷ 0x4C ∷ 0x02 ∷ 0x02 ∷ 0x00 ∷ group 0x03 (group 0x04 (share 0x09 (share 0x00 [])))
+
+abbrev pub callsM : List Call
+callsM =
+    call Load listM []
+    ∷ call (AtLeast 0) [] []
+    ∷ call Propose planM []
+    ∷ map (λ (m : ℕ). call (AtLeast m) [] []) thresholdsM
+
+abbrev pub repliesM : List Reply
+repliesM =
+    reply done []
+    ∷ reply (refused 17) []
+    ∷ reply done []
+    ∷ map (λ (x : ℕ). reply (reached x) []) setsM
+
+abbrev pub sitesM : Listing
+sitesM = record { sites = pair 0 1 9 ∷ pair 1 2 1 ∷ [] }
+
+abbrev pub loadedM : Model
+loadedM = model (sitesM .sites) none
+
+abbrev pub plannedM : Model
+plannedM = model (sitesM .sites) (some (record { groups = 3 ∷ 4 ∷ []; shares = 9 ∷ 0 ∷ [] }))
 
 -- the answer to the i-th call
 abbrev pub nth : ℕ → List Reply → Told

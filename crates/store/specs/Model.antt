@@ -7,18 +7,19 @@ use mathlib.Core.Option.{Option, none, some}
 use Prim.Native.Nat.{ℕ}
 use lib.Dec.{eqb, leb, ltb}
 use lib.ListN.{length, getD, set}
+use Rattle.sets.specs.Set.{setOf}
 use Rattle.density.specs.declared.Site.{Site}
 use Rattle.density.specs.Network.{Listing, network, siteAt}
 use Rattle.density.specs.Rows.{Row, row, firstRow, planRows}
-use Rattle.density.specs.Figures.{depotLitres, depotSize, siteWhole, difference, divisor}
+use Rattle.density.specs.Figures.{depotLitres, depotSize, siteWhole, difference, divisor, atLeast}
 use Rattle.records.specs.declared.Edition.{Edition}
 use Rattle.records.specs.Values.{Plan}
 use Rattle.records.specs.Format.{listRows, sitesOf, layoutRows, planOf}
 use Rattle.records.specs.Write.{planBytes, onto}
 use Rattle.judge.specs.Check.{True}
 use Rattle.store.specs.declared.Request.{Request}
-use Rattle.store.specs.declared.Request.the-variants.{Load, Change, Add, Propose, Share, Depot, Difference, Written}
-use Rattle.store.specs.Calls.{Call, Reply, same, refused, done, shared, loaded, differ, wrote}
+use Rattle.store.specs.declared.Request.the-variants.{Load, Change, Add, Propose, Share, Depot, Difference, Written, AtLeast}
+use Rattle.store.specs.Calls.{Call, Reply, same, refused, done, shared, loaded, differ, wrote, reached}
 
 -- "It has a list, at first without sites, and a plan, at first none"; it "is fed the number of table places".
 pub record Model : Type 0 where
@@ -70,6 +71,7 @@ rowsOf b c (Share i) = row 17 (missing (b .plan)) ∷ row 18 (leb (count b) i) �
 rowsOf b c (Depot d) = row 17 (missing (b .plan)) ∷ row 19 (unlisted b d) ∷ []
 rowsOf b c (Difference a d) = row 17 (missing (b .plan)) ∷ row 19 (unlisted b a || unlisted b d) ∷ []
 rowsOf b c Written = row 17 (missing (b .plan)) ∷ row 20 (ltb (length (c .buffer)) (length (planBytes (b .edition) (held (b .plan))))) ∷ []
+rowsOf b c (AtLeast m) = row 17 (missing (b .plan)) ∷ []
 
 abbrev pub modelRows : Model → Call → List Row
 modelRows b c = rowsOf b c (c .request)
@@ -87,7 +89,8 @@ abbrev pub turned : Model → Reply → Turn
 turned b r = record { after = b; reply = r }
 
 -- What is granted where no row applies (a proposal is not judged by it but by `Proposes`, below).
--- "w × q, W, q and the difference with its divisor follow from the definition on its list alone"; s is read from its plan
+-- "w × q, W, q and the difference with its divisor follow from the definition on its list alone"; s is read from its plan. Document 02, a: "the set that follows from the
+-- definition on its list alone".
 abbrev pub grantOf : Model → Call → Request → Turn
 grantOf b c Load = turned (listed b (sitesOf (b .edition) (c .input))) (same c done)
 grantOf b c (Change i w) = turned (listed b (set (b .list .sites) i (withLitres (siteAt (b .list) i) w))) (same c done)
@@ -99,6 +102,7 @@ grantOf b c (Difference a d) = turned b (same c (differ (difference (network (b 
 grantOf b c Written =
     let bytes = planBytes (b .edition) (held (b .plan)) in
     turned b (record { answer = wrote (length bytes); buffer = onto bytes (c .buffer) })
+grantOf b c (AtLeast m) = turned b (same c (reached (setOf (atLeast (network (b .list)) m) 64)))
 
 -- "A refused call or a question leaves the book as it is, and a refused call leaves its buffer so too."
 abbrev pub settled : Option ℕ → Model → Call → Turn → Turn
@@ -131,6 +135,7 @@ SaysOf (Share i) = Turns
 SaysOf (Depot d) = Turns
 SaysOf (Difference a d) = Turns
 SaysOf Written = Turns
+SaysOf (AtLeast m) = Turns
 
 abbrev pub Says : Model → Call → Reply → Model → Type 0
 Says b c r b' = SaysOf (c .request) b c r b'

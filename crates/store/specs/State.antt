@@ -4,11 +4,12 @@ use mathlib.Core.List.{List, _++_}
 use mathlib.Core.Option.{Option, none, some}
 use Prim.Native.Nat.{ℕ, _+_, _*_}
 use lib.ListN.{length, getD, drop, set, replicate}
+use Rattle.sets.specs.Set.{setOf}
 use Rattle.density.specs.declared.Site.{Site}
 use Rattle.density.specs.Network.{network, siteAt}
 use Rattle.density.specs.Plan.{whole}
 use Rattle.density.specs.Rows.{firstRow, planRows}
-use Rattle.density.specs.Figures.{differenceOf}
+use Rattle.density.specs.Figures.{differenceOf, depotsRead}
 use Rattle.records.specs.declared.Edition.{Edition}
 use Rattle.records.specs.Values.{Plan}
 use Rattle.records.specs.Answer.{filled}
@@ -17,8 +18,8 @@ use Rattle.records.specs.Write.{planBytes, onto}
 use Rattle.held_state.specs.declared.Store.{Store}
 use Rattle.held_state.specs.Held.{State, listOf, planHeld, corrupt, litresAt, sizeAt}
 use Rattle.store.specs.declared.Request.{Request}
-use Rattle.store.specs.declared.Request.the-variants.{Load, Change, Add, Propose, Share, Depot, Difference, Written}
-use Rattle.store.specs.Calls.{Call, Reply, same, refused, done, shared, loaded, differ, wrote}
+use Rattle.store.specs.declared.Request.the-variants.{Load, Change, Add, Propose, Share, Depot, Difference, Written, AtLeast}
+use Rattle.store.specs.Calls.{Call, Reply, same, refused, done, shared, loaded, differ, wrote, reached}
 use Rattle.store.specs.Model.{Model, count, rowsOf, withLitres}
 
 -- the list held, and the plan held or the lack of one
@@ -36,6 +37,7 @@ triesZero (Share i) = true
 triesZero (Depot d) = true
 triesZero (Difference a d) = true
 triesZero Written = true
+triesZero (AtLeast m) = true
 
 -- Propose: the first of rows 12 to 16 that applies to a plan for the held list
 abbrev pub planRow : Model → Plan → Option ℕ
@@ -55,6 +57,7 @@ rowFor b c (Share i) = firstRow (rowsOf b c (Share i))
 rowFor b c (Depot d) = firstRow (rowsOf b c (Depot d))
 rowFor b c (Difference a d) = firstRow (rowsOf b c (Difference a d))
 rowFor b c Written = firstRow (rowsOf b c Written)
+rowFor b c (AtLeast m) = firstRow (rowsOf b c (AtLeast m))
 
 abbrev pub refusal : State → Call → Option ℕ
 refusal s c = cond (triesZero (c .request) && corrupt s) (some 0) (rowFor (modelOf s) c (c .request))
@@ -83,7 +86,7 @@ abbrev pub stays : State → Reply → Done
 stays s r = record { after = s; reply = r }
 
 -- What a call does that no row refuses. "success drops the plan, even if no figure differs, and sets its groups and share places to zero."
--- "Table places beyond the sites keep their content."
+-- "Table places beyond the sites keep their content." Document 02, a: "reading ends at the first group below the mark".
 abbrev pub effectOf : State → Call → Request → Done
 effectOf s c Load =
     let sites = sitesOf (s .edition) (c .input) in
@@ -99,6 +102,7 @@ effectOf s c (Difference a d) =
 effectOf s c Written =
     let bytes = planBytes (s .edition) (planHeld s) in
     stays s (record { answer = wrote (length bytes); buffer = onto bytes (c .buffer) })
+effectOf s c (AtLeast m) = stays s (same c (reached (setOf (depotsRead (network (listOf s)) (planHeld s .groups) m) 64)))
 
 -- "A refusal is its number and no other figure, and every buffer, table and desk remains as before, its held plan included."
 abbrev pub settle : Option ℕ → State → Call → Done → Done

@@ -4,22 +4,23 @@ use mathlib.Core.Bool.{Bool, true, false, cond}
 use mathlib.Core.List.{List, [], _∷_}
 use mathlib.Core.Logic.{_↔_}
 use mathlib.Core.Option.{Option, none, some}
-use Prim.Native.Nat.{ℕ, _-_, _*_}
+use Prim.Native.Nat.{ℕ, _-_, _*_, _≤_}
 use lib.IntN.{ℤ}
 use lib.ListN.{length, getD, drop, replicate}
+use Rattle.sets.specs.Set.{_⊆_, has, setOf}
 use Rattle.density.specs.declared.Site.{Site}
 use Rattle.density.specs.Network.{network}
 use Rattle.density.specs.Groups.{Decomposition}
 use Rattle.density.specs.Plan.{place, groupLitres, groupSize, whole}
-use Rattle.density.specs.Figures.{differenceOf}
+use Rattle.density.specs.Figures.{differenceOf, atLeastBy, everyGroup}
 use Rattle.records.specs.declared.Edition.{Edition}
 use Rattle.records.specs.Bytes.{Bytes}
 use Rattle.records.specs.Values.{Plan}
 use Rattle.records.specs.Format.{planOf}
 use Rattle.records.specs.Write.{onto, All}
 use Rattle.store.specs.declared.Request.{Request}
-use Rattle.store.specs.declared.Request.the-variants.{Load, Change, Add, Propose, Share, Depot, Difference, Written}
-use Rattle.store.specs.Calls.{Call, Reply, Told, refused, done, shared, loaded, differ, wrote}
+use Rattle.store.specs.declared.Request.the-variants.{Load, Change, Add, Propose, Share, Depot, Difference, Written, AtLeast}
+use Rattle.store.specs.Calls.{Call, Reply, Told, refused, done, shared, loaded, differ, wrote, reached}
 use Rattle.judge.specs.Check.{True}
 use Rattle.store.specs.Model.{Model, emptyModel, count, Says}
 use Rattle.held_state.specs.Held.{State}
@@ -56,6 +57,7 @@ ended (shared s w) = false
 ended (loaded w q) = false
 ended (differ d q) = false
 ended (wrote n) = false
+ended (reached x) = false
 
 abbrev pub leaves : Request → List ℕ → Told → Option (List ℕ) → Option (List ℕ)
 leaves Load s a o = cond (ended a) none o
@@ -66,6 +68,7 @@ leaves (Share i) s a o = o
 leaves (Depot d) s a o = o
 leaves (Difference d e) s a o = o
 leaves Written s a o = o
+leaves (AtLeast m) s a o = o
 
 unfoldable pub lastPassed : Option (List ℕ) → List Call → List Reply → Option (List ℕ)
 lastPassed o [] rs = o
@@ -87,6 +90,7 @@ Question (Share i) = Unit {0}
 Question (Depot d) = Unit {0}
 Question (Difference a d) = Unit {0}
 Question Written = Unit {0}
+Question (AtLeast m) = Unit {0}
 
 -- "all zero" where no plan is held, and "group and share places beyond it become zero" where one is
 pub record Tidy (s : State) : Type 0 where
@@ -135,9 +139,19 @@ pub record Exact (e : Edition) (table : List Site) (calls : List Call) (replies 
   -- plan's length"
   pub written-out : (c : Call) (r : Reply) (s' : State) (n : ℕ) → c .request ≡ Written → Steps s c r s' → r .answer ≡ wrote n
       → (bytes : List ℕ) × (lastPassed none calls replies ≡ some bytes) × (n ≡ length bytes) × (r .buffer ≡ onto bytes (c .buffer))
+  -- document 02, a: "the book gives row 17 if it has no plan" (`wanting`), "and otherwise the set that follows from the definition on its list alone"; "the
+  -- answer equals the one from looking at every group" of the plan held; "a mark of 0 gives all listed depots"; and a higher one gives no depot that a lower one does not
+  pub at-least : (c : Call) (m : ℕ) (r : Reply) (s' : State) (bytes : List ℕ) → c .request ≡ AtLeast m → Steps s c r s' → lastPassed none calls replies ≡ some bytes
+      → (gs : List ℕ) → Decomposition (network (modelOf s .list)) gs → r .answer ≡ reached (setOf (atLeastBy (network (modelOf s .list)) gs m) 64)
+  pub every-group : (c : Call) (m : ℕ) (r : Reply) (s' : State) (bytes : List ℕ) → c .request ≡ AtLeast m → Steps s c r s' → lastPassed none calls replies ≡ some bytes
+      → r .answer ≡ reached (setOf (everyGroup (network (modelOf s .list)) (planOf e (count (modelOf s)) bytes .groups) m) 64)
+  pub zero-gives-all : (c : Call) (r : Reply) (s' : State) (bytes : List ℕ) → c .request ≡ AtLeast 0 → Steps s c r s' → lastPassed none calls replies ≡ some bytes
+      → r .answer ≡ reached (setOf (network (modelOf s .list) .listed) 64)
+  pub higher-gives-fewer : (c c' : Call) (m m' : ℕ) (r r' : Reply) (s₁ s₂ : State) (x x' : ℕ) → c .request ≡ AtLeast m → c' .request ≡ AtLeast m'
+      → Steps s c r s₁ → Steps s c' r' s₂ → r .answer ≡ reached x → r' .answer ≡ reached x' → m ≤ m' → has x' ⊆ has x
 
--- "Two desks hold the same list if their books' lists are equal": each W, q, w × q and difference that both answer is then the same, whatever their
--- histories; s is that of each one's plan.
+-- "Two desks hold the same list if their books' lists are equal": each W, q, w × q, difference and set of depots that both answer is then the same,
+-- whatever their histories; s is that of each one's plan.
 pub record SameFigures (s₁ s₂ : State) : Type 0 where
   pub site : (c₁ c₂ : Call) (i : ℕ) (r₁ r₂ : Reply) (s₁' s₂' : State) (x₁ w₁ x₂ w₂ : ℕ) → c₁ .request ≡ Share i → c₂ .request ≡ Share i
       → Steps s₁ c₁ r₁ s₁' → Steps s₂ c₂ r₂ s₂' → r₁ .answer ≡ shared x₁ w₁ → r₂ .answer ≡ shared x₂ w₂ → w₁ ≡ w₂
@@ -146,3 +160,5 @@ pub record SameFigures (s₁ s₂ : State) : Type 0 where
   pub differences : (c₁ c₂ : Call) (a d : ℕ) (r₁ r₂ : Reply) (s₁' s₂' : State) (z₁ : ℤ) (q₁ : ℕ) (z₂ : ℤ) (q₂ : ℕ) → c₁ .request ≡ Difference a d
       → c₂ .request ≡ Difference a d → Steps s₁ c₁ r₁ s₁' → Steps s₂ c₂ r₂ s₂' → r₁ .answer ≡ differ z₁ q₁ → r₂ .answer ≡ differ z₂ q₂
       → (z₁ ≡ z₂) × (q₁ ≡ q₂)
+  pub at-least : (c₁ c₂ : Call) (m : ℕ) (r₁ r₂ : Reply) (s₁' s₂' : State) (x₁ x₂ : ℕ) → c₁ .request ≡ AtLeast m → c₂ .request ≡ AtLeast m
+      → Steps s₁ c₁ r₁ s₁' → Steps s₂ c₂ r₂ s₂' → r₁ .answer ≡ reached x₁ → r₂ .answer ≡ reached x₂ → x₁ ≡ x₂

@@ -5,9 +5,9 @@ use Rattle.density.specs.Network.{noSite}
 use Rattle.records.specs.declared.Edition.{Edition}
 use Rattle.held_state.specs.Held.{State}
 use Rattle.store.specs.declared.Request.{Request}
-use Rattle.store.specs.declared.Request.the-variants.{Load, Change, Add, Propose, Share, Depot, Difference, Written}
+use Rattle.store.specs.declared.Request.the-variants.{Load, Change, Add, Propose, Share, Depot, Difference, Written, AtLeast}
 
--- the litres that a request names are below a bound
+-- the litres that a request puts into the table are below a bound; a threshold is put nowhere
 abbrev pub Named : ℕ → Request → Type 0
 Named b Load = Unit {0}
 Named b (Change i w) = w < b
@@ -17,6 +17,7 @@ Named b (Share i) = Unit {0}
 Named b (Depot d) = Unit {0}
 Named b (Difference a d) = Unit {0}
 Named b Written = Unit {0}
+Named b (AtLeast m) = Unit {0}
 
 -- litres of at most 32 bits and shares of at most 64, as a site and a plan by value have them
 abbrev pub Fitting : Edition → Type 0

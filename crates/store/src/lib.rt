@@ -4,7 +4,7 @@ use held_state::Store;
 
 pub mod decide;
 
-// What a call asks for.
+// What a call asks for. The number of `AtLeast` is a threshold in litres per depot (document 02: a mark).
 pub enum Request {
     Load,
     Change(usize, u32),
@@ -14,6 +14,7 @@ pub enum Request {
     Depot(u8),
     Difference(u8, u8),
     Written,
+    AtLeast(u32),
 }
 
 // What a call answers.
@@ -24,6 +25,7 @@ pub enum Answer {
     Depot(u64, u64),
     Difference(i64, u64),
     Length(usize),
+    Reached(u64),
 }
 
 // What a call does: its answer, the store after it, and the sites of which the first n go to the table.

@@ -8,11 +8,11 @@ use borrow.Author.Tests.{leb-true, leb-false, lt-ltb, le-ltb}
 use lib.Dec.{leb, ltb}
 use lib.ListN.{length, getD, take}
 use lib.Seq.{getD-take}
-use Rattle.sets.specs.Set.{has}
+use Rattle.sets.specs.Set.{has, setOf}
 use Rattle.density.specs.Network.{Listing, network}
 use Rattle.density.specs.Plan.{place, groupLitres, groupSize, whole}
 use Rattle.density.specs.Rows.{firstRow}
-use Rattle.density.specs.Figures.{differenceOf}
+use Rattle.density.specs.Figures.{differenceOf, depotsRead}
 use Rattle.records.specs.declared.Edition.{Edition}
 use Rattle.records.specs.declared.ListArray.{ListArray}
 use Rattle.records.specs.declared.PlanArray.{PlanArray}
@@ -28,7 +28,7 @@ use Rattle.held_state.specs.Values.{Stands, heldLitres, heldSize}
 use Rattle.held_state.proofs.Figures.{listed-has}
 use Rattle.held_state.proofs.Standing.{stands-list, stands-plan}
 use Rattle.store.specs.declared.Request.{Request}
-use Rattle.store.specs.declared.Request.the-variants.{Load, Change, Add, Propose, Share, Depot, Difference, Written}
+use Rattle.store.specs.declared.Request.the-variants.{Load, Change, Add, Propose, Share, Depot, Difference, Written, AtLeast}
 use Rattle.store.specs.declared.Answer.{Answer}
 use Rattle.store.specs.declared.Answer.the-variants as of
 use Rattle.store.specs.Calls.{Call, same, told, refused}
@@ -67,6 +67,7 @@ tries-zero (Share i) h = refl
 tries-zero (Depot d) h = refl
 tries-zero (Difference a d) h = refl
 tries-zero Written h = refl
+tries-zero (AtLeast m) h = refl
 
 no-plan : (b : Model) (c : Call) (q : Request) → Question q → b .plan ≡ none → rowFor b c q ≡ some 17
 unfolding firstRow
@@ -78,6 +79,7 @@ no-plan b c (Share i) h p = rw p
 no-plan b c (Depot d) h p = rw p
 no-plan b c (Difference a d) h p = rw p
 no-plan b c Written h p = rw p
+no-plan b c (AtLeast m) h p = rw p
 
 module _ (s : State) (c : Call) where
   pub zero-told : Question (c .request) → corrupt s ≡ true → same c (refused 0) ≡ step s c .reply
@@ -191,3 +193,10 @@ module _ {s : State} {list : ListArray} {k : Summary} {gs ss ws : List ℕ} {f :
     written-told e last m h w =
         let x = rw (← m) at w in
         rw (h, x .answer, x .buffer) (written-by (leb (length bytes) (length buffer)) refl)
+
+    pub at-least-told : (m x : ℕ) → q ≡ AtLeast m → r ≡ of.Reached x → x ≡ setOf (depotsRead (net list) (groupsIn list plan) m) 64 → Answers q r buffer
+    unfolding firstRow
+    at-least-told m x e h y =
+        rw (e, h)
+        (asked s (call (AtLeast m)) false 18 (of.Reached x) (row-is s (call (AtLeast m)) z (AtLeast m) refl ∙ rw there)
+        (λ u. ap (λ (n : ℕ). same (call (AtLeast m)) (told (of.Reached n))) (by (λ (l : Listing) (gs : List ℕ). setOf (depotsRead (network l) gs m) 64) ∙ sym y)))

@@ -1,6 +1,7 @@
 // What each call decides, on values: the rows of a change, an added site and a proposal, and the answers to questions.
 use density::Site;
 use held_state::Summary;
+use held_state::at_least;
 use held_state::difference_of;
 use held_state::examine;
 use held_state::figures_of;
@@ -166,6 +167,7 @@ pub fn answer(
         Request::Depot(d) => depot_told(f, d),
         Request::Difference(a, b) => difference_told(f, a, b),
         Request::Written => written(e, &groups[..known.grouped], &shares[..count], buffer),
+        Request::AtLeast(m) => Answer::Reached(at_least(f, &groups[..known.grouped], m)),
         _ => Answer::Refused(0),
     }
 }

@@ -13,7 +13,7 @@ use Rattle.sets.specs.Sum.{any}
 use Rattle.sets.specs.Set.{Depots, _∪_, _∩_, has, setOf, isEmpty, cardinality}
 use Rattle.sets.proofs.Test.{T?, T-ext, eq→eqb, is-false, fails}
 use Rattle.sets.proofs.Sum.{any-at, any-from, any-cong}
-use Rattle.sets.proofs.Member.{member-lt, has-none, has-setOf, setOf-is}
+use Rattle.sets.proofs.Member.{member-lt, has-none, has-setOf, setOf-is, setOf-cong}
 use Rattle.sets.proofs.Set.{any-here}
 use Rattle.density.specs.Network.{Listing, Network, Valid, network, size}
 use Rattle.density.specs.Plan.{union, group, before, place, groupSize}
@@ -21,7 +21,6 @@ use Rattle.density.specs.Rows.{groupsMeet, groupsUnlisted}
 use Rattle.density.proofs.Places.{→group, before-suc}
 use Rattle.density.proofs.Plans.{union→}
 use Rattle.tables.specs.Tables.{Holds}
-use Rattle.tables.proofs.Sites.{setOf-cong}
 use Rattle.tables.proofs.Arrays.{holds-more}
 
 -- ---- the depots of the groups before k, as a number

@@ -12,7 +12,7 @@ use Rattle.sets.specs.Sum.{any}
 use Rattle.sets.specs.Set.{Depots, only, _∪_, has, setOf}
 use Rattle.sets.proofs.Test.{and-l, and-r, eqb-swap}
 use Rattle.sets.proofs.Sum.{all-at, any-cong}
-use Rattle.sets.proofs.Member.{has-none, setOf-lt, has-setOf, setOf-is}
+use Rattle.sets.proofs.Member.{has-none, has-setOf, setOf-is, setOf-cong}
 use Rattle.density.specs.declared.Site.{Site}
 use Rattle.density.specs.Network.{noSite, siteAt, names, network, depotsInRange}
 use Rattle.records.specs.declared.ListArray.{ListArray}
@@ -39,9 +39,6 @@ module _ (list : ListArray) (wide : length (list .sites) ≡ 512) (few : list .c
       subst (λ (t : Site). (t .first < 64) × (t .second < 64)) (getD-take (list .count) (list .sites) i noSite l) small
 
 -- ---- the depots that the first sites name, as a number
-
-pub setOf-cong : (X Y : Depots) (k : ℕ) → ((d : ℕ) → d < k → X d ≡ Y d) → setOf X k ≡ setOf Y k
-setOf-cong X Y k e = setOf-is k Y (setOf-lt k X) (λ d l. has-setOf k X d l ∙ e d l)
 
 pub name-is : (set : ℕ) (s : Site) → setOf (has (setOf (has set ∪ only (s .first)) 64) ∪ only (s .second)) 64 ≡ setOf (has set ∪ names s) 64
 name-is set s =

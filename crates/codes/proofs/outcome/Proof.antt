@@ -31,6 +31,9 @@ enum-known-a-4 c = search needs
 enum-told-2 : tie.Need-enum-told-2
 enum-told-2 c = search needs
 
+enum-known-a-5 : tie.Need-enum-known-a-5
+enum-known-a-5 c = search needs
+
 returns : tie.Need-returns
 returns c =
     let entry = c .before .before .before .before in
@@ -67,6 +70,12 @@ returns-6 c =
     outcome-eq refl (toZ-ofZ {w = w64} (entry .fits .difference))
     ∙ ap (λ (t : Told). outcomeOf t (entry .args .first) (entry .args .second) (entry .args .difference)) (sym (ap told (c .enum-told2 .given .1)))
 
+returns-7 : tie.Need-returns-7
+returns-7 c =
+    let entry = c .before .before .before in
+    outcome-eq refl (toZ-ofZ {w = w64} (entry .fits .difference))
+    ∙ ap (λ (t : Told). outcomeOf t (entry .args .first) (entry .args .second) (entry .args .difference)) (sym (ap told (c .before .a5 .given .1)))
+
 pub outcome-spec : {M : Type 1} → statement M
 outcome-spec =
     tie.close
@@ -78,9 +87,11 @@ outcome-spec =
     enum-known-a-3
     enum-known-a-4
     enum-told-2
+    enum-known-a-5
     returns
     returns-2
     returns-3
     returns-4
     returns-5
-    returns-6)
+    returns-6
+    returns-7)

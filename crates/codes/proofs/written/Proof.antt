@@ -31,6 +31,9 @@ enum-known-a-2 c = search needs
 length-requires : tie.Need-length-requires
 length-requires c κs = c .before .before .before .pre _ (ap told (c .before .a2 .given .1))
 
+enum-told-5 : tie.Need-enum-told-5
+enum-told-5 c = search needs
+
 returns : tie.Need-returns
 returns c = read-back (c .row .ok) ∙ c .row .ensures ∙ ap lengthCode (sym (ap told (c .before .before .a .given .1)))
 
@@ -49,6 +52,9 @@ returns-5 c = ap lengthCode (sym (ap told (c .enum-told4 .given .1)))
 returns-6 : tie.Need-returns-6
 returns-6 c = read-back (c .length .ok) ∙ c .length .ensures ∙ ap lengthCode (sym (ap told (c .before .before .a2 .given .1)))
 
+returns-7 : tie.Need-returns-7
+returns-7 c = ap lengthCode (sym (ap told (c .enum-told5 .given .1)))
+
 pub written-spec : {M : Type 1} → statement M
 written-spec =
     tie.close
@@ -61,9 +67,11 @@ written-spec =
     enum-told-4
     enum-known-a-2
     length-requires
+    enum-told-5
     returns
     returns-2
     returns-3
     returns-4
     returns-5
-    returns-6)
+    returns-6
+    returns-7)

@@ -32,7 +32,9 @@ depot-requires c κs = search needs
 returns-2 : tie.Need-returns-2
 unfolding question
 returns-2 c =
-    simp (same-no (c .before .before .before .before .before .same .ensures) (c .before .before .before .before .if1 .left), same-yes (c .before .before .same2 .ensures) (c .before .if2 .taken)) (c .depot .ensures)
+    let at = c .before .before in
+    let first = at .before .before in
+    simp (same-no (first .before .same .ensures) (first .if1 .left), same-yes (at .same2 .ensures) (c .before .if2 .taken)) (c .depot .ensures)
 
 slice-aggregate-same-3 : tie.Need-slice-aggregate-same-3
 slice-aggregate-same-3 c = search needs
@@ -46,12 +48,41 @@ written-requires c κs = search needs
 returns-3 : tie.Need-returns-3
 unfolding question
 returns-3 c =
-    simp (same-no (c .before .before .before .before .before .before .before .before .same .ensures) (c .before .before .before .before .before .before .before .if1 .left), same-no (c .before .before .before .before .before .same2 .ensures) (c .before .before .before .before .if2 .left), same-yes (c .before .before .same3 .ensures) (c .before .if3 .taken)) (c .written .ensures)
+    let at = c .before .before in
+    let second = at .before .before in
+    let first = second .before .before .before in
+    simp
+    (same-no (first .before .same .ensures) (first .if1 .left), same-no (second .before .same2 .ensures) (second .if2 .left), same-yes (at .same3 .ensures) (c .before .if3 .taken))
+    (c .written .ensures)
+
+slice-aggregate-same-4 : tie.Need-slice-aggregate-same-4
+slice-aggregate-same-4 c = search needs
+
+same-requires-4 : tie.Need-same-requires-4
+same-requires-4 c κs = search needs
+
+at-least-requires : tie.Need-at-least-requires
+at-least-requires c κs = search needs
 
 returns-4 : tie.Need-returns-4
 unfolding question
 returns-4 c =
-    simp (same-no (c .before .before .before .before .before .before .before .same .ensures) (c .before .before .before .before .before .before .if1 .left), same-no (c .before .before .before .before .same2 .ensures) (c .before .before .before .if2 .left), same-no (c .before .same3 .ensures) (c .if3 .left))
+    let at = c .before .before in
+    let third = at .before .before in
+    let second = third .before .before .before in
+    let first = second .before .before .before in
+    simp
+    (same-no (first .before .same .ensures) (first .if1 .left), same-no (second .before .same2 .ensures) (second .if2 .left), same-no (third .before .same3 .ensures) (third .if3 .left), same-yes (at .same4 .ensures) (c .before .if4 .taken))
+    (c .at-least .ensures)
+
+returns-5 : tie.Need-returns-5
+unfolding question
+returns-5 c =
+    let third = c .before .before .before in
+    let second = third .before .before .before in
+    let first = second .before .before .before in
+    simp
+    (same-no (first .before .same .ensures) (first .if1 .left), same-no (second .before .same2 .ensures) (second .if2 .left), same-no (third .before .same3 .ensures) (third .if3 .left), same-no (c .before .same4 .ensures) (c .if4 .left))
 
 pub question-spec : {M : Type 1} → statement M
 question-spec =
@@ -69,4 +100,8 @@ question-spec =
     same-requires-3
     written-requires
     returns-3
-    returns-4)
+    slice-aggregate-same-4
+    same-requires-4
+    at-least-requires
+    returns-4
+    returns-5)

@@ -12,14 +12,14 @@ enum-told c = search needs
 enum-known-q : tie.Need-enum-known-q
 enum-known-q c = search needs
 
-cast-t12 : tie.Need-cast-t12
-cast-t12 c = search needs
+cast-t13 : tie.Need-cast-t13
+cast-t13 c = search needs
 
 enum-known-q-2 : tie.Need-enum-known-q-2
 enum-known-q-2 c = search needs
 
-cast-t13 : tie.Need-cast-t13
-cast-t13 c = search needs
+cast-t14 : tie.Need-cast-t14
+cast-t14 c = search needs
 
 enum-told-2 : tie.Need-enum-told-2
 enum-told-2 c = search needs
@@ -35,6 +35,9 @@ enum-known-q-5 c = search needs
 
 enum-told-3 : tie.Need-enum-told-3
 enum-told-3 c = search needs
+
+enum-known-q-6 : tie.Need-enum-known-q-6
+enum-known-q-6 c = search needs
 
 returns : tie.Need-returns
 returns c = (search needs, tt)
@@ -60,20 +63,24 @@ returns-7 c = (sym (ap requestOf1 (c .before .q5 .given .1)), tt)
 returns-8 : tie.Need-returns-8
 returns-8 c = (search needs, tt)
 
+returns-9 : tie.Need-returns-9
+returns-9 c = (sym (ap requestOf1 (c .before .q6 .given .1)), tt)
+
 pub widen-request-spec : {M : Type 1} → statement M
 widen-request-spec =
     tie.close
     (tie.spec
     enum-told
     enum-known-q
-    cast-t12
-    enum-known-q-2
     cast-t13
+    enum-known-q-2
+    cast-t14
     enum-told-2
     enum-known-q-3
     enum-known-q-4
     enum-known-q-5
     enum-told-3
+    enum-known-q-6
     returns
     returns-2
     returns-3
@@ -81,4 +88,5 @@ widen-request-spec =
     returns-5
     returns-6
     returns-7
-    returns-8)
+    returns-8
+    returns-9)

@@ -6,22 +6,23 @@ use types.Run.{OneOf, miss}
 use denote.Enum.Declared.{tagOf}
 use borrow.Author.Needs.{needs}
 use Rattle.edition1.specs.declared.Request1.{Request1}
-use Rattle.edition1.specs.declared.Request1.the-variants.{Load, Change, Add, Propose, Share, Depot, Difference, Written}
+use Rattle.edition1.specs.declared.Request1.the-variants.{Load, Change, Add, Propose, Share, Depot, Difference, Written, AtLeast}
 use Rattle.edition1.proofs.Request1.{the-type}
 use Rattle.entries1.specs.Stored.{none, storedOf}
 use Rattle.entries1.proofs.stored1.Statement.{statement}
 use Rattle.entries1.proofs.stored1.Tie as tie
 
 -- the requests behind the third
-others : (q : Request1) (count n : ℕ) → OneOf (3 ∷ 4 ∷ 5 ∷ 6 ∷ 7 ∷ []) (tagOf the-type q) → none ≡ storedOf q count n
-others Load count n h = absurd (miss (3 ∷ 4 ∷ 5 ∷ 6 ∷ 7 ∷ []) 0 tt h)
-others (Change i w) count n h = absurd (miss (3 ∷ 4 ∷ 5 ∷ 6 ∷ 7 ∷ []) 1 tt h)
-others (Add f s w) count n h = absurd (miss (3 ∷ 4 ∷ 5 ∷ 6 ∷ 7 ∷ []) 2 tt h)
+others : (q : Request1) (count n : ℕ) → OneOf (3 ∷ 4 ∷ 5 ∷ 6 ∷ 7 ∷ 8 ∷ []) (tagOf the-type q) → none ≡ storedOf q count n
+others Load count n h = absurd (miss (3 ∷ 4 ∷ 5 ∷ 6 ∷ 7 ∷ 8 ∷ []) 0 tt h)
+others (Change i w) count n h = absurd (miss (3 ∷ 4 ∷ 5 ∷ 6 ∷ 7 ∷ 8 ∷ []) 1 tt h)
+others (Add f s w) count n h = absurd (miss (3 ∷ 4 ∷ 5 ∷ 6 ∷ 7 ∷ 8 ∷ []) 2 tt h)
 others Propose count n h = refl
 others (Share i) count n h = refl
 others (Depot d) count n h = refl
 others (Difference a b) count n h = refl
 others Written count n h = refl
+others (AtLeast m) count n h = refl
 
 enum-told : tie.Need-enum-told
 enum-told c = search needs

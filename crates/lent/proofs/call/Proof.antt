@@ -1,10 +1,10 @@
 -- `lent::call` meets its contract. Assumes nothing.
-use mathlib.Core.Path.{sym, subst}
+use mathlib.Core.Path.{subst}
 use Prim.Native.Nat.{_^_}
 use borrow.Author.Needs.{needs}
 use denote.Ref.{now}
-use Rattle.store.specs.Trace.{Question}
 use Rattle.store.specs.Widths.{Named}
+use Rattle.store.proofs.Rules.{others-ask}
 use Rattle.lent.proofs.Served.{called-as}
 use Rattle.lent.proofs.call.Statement.{statement}
 use Rattle.lent.proofs.call.Tie as tie
@@ -39,29 +39,8 @@ enum-told-2 c = search needs
 propose-requires : tie.Need-propose-requires
 propose-requires c κs = search needs
 
-enum-told-3 : tie.Need-enum-told-3
-enum-told-3 c = search needs
-
 look-requires : tie.Need-look-requires
 look-requires c κs = search needs
-
-enum-told-4 : tie.Need-enum-told-4
-enum-told-4 c = search needs
-
-look-requires-2 : tie.Need-look-requires-2
-look-requires-2 c κs = search needs
-
-enum-told-5 : tie.Need-enum-told-5
-enum-told-5 c = search needs
-
-look-requires-3 : tie.Need-look-requires-3
-look-requires-3 c κs = search needs
-
-enum-told-6 : tie.Need-enum-told-6
-enum-told-6 c = search needs
-
-look-requires-4 : tie.Need-look-requires-4
-look-requires-4 c κs = search needs
 
 same-length : tie.Need-same-length
 same-length c = search needs
@@ -130,60 +109,9 @@ returns-5 : tie.Need-returns-5
 returns-5 c =
     let l = c .before .before in
     let r = l .before .before .before .before in
-    let f = r .before .before .before in
+    let f = r .before .before in
     let a = f .before .before .before .args in
-    l .look .ensures (now (a .input)) (λ i. f .shared-slice-known .given i .fits) (subst Question (sym (r .enum-told3 .given .1)) tt)
-
-same-length-12 : tie.Need-same-length-12
-same-length-12 c = search needs
-
-same-length-13 : tie.Need-same-length-13
-same-length-13 c = search needs
-
-same-length-14 : tie.Need-same-length-14
-same-length-14 c = search needs
-
-returns-6 : tie.Need-returns-6
-returns-6 c =
-    let l = c .before .before in
-    let r = l .before .before .before .before in
-    let f = r .before .before .before in
-    let a = f .before .before .before .args in
-    l .look2 .ensures (now (a .input)) (λ i. f .shared-slice-known .given i .fits) (subst Question (sym (r .enum-told4 .given .1)) tt)
-
-same-length-15 : tie.Need-same-length-15
-same-length-15 c = search needs
-
-same-length-16 : tie.Need-same-length-16
-same-length-16 c = search needs
-
-same-length-17 : tie.Need-same-length-17
-same-length-17 c = search needs
-
-returns-7 : tie.Need-returns-7
-returns-7 c =
-    let l = c .before .before in
-    let r = l .before .before .before .before in
-    let f = r .before .before .before in
-    let a = f .before .before .before .args in
-    l .look3 .ensures (now (a .input)) (λ i. f .shared-slice-known .given i .fits) (subst Question (sym (r .enum-told5 .given .1)) tt)
-
-same-length-18 : tie.Need-same-length-18
-same-length-18 c = search needs
-
-same-length-19 : tie.Need-same-length-19
-same-length-19 c = search needs
-
-same-length-20 : tie.Need-same-length-20
-same-length-20 c = search needs
-
-returns-8 : tie.Need-returns-8
-returns-8 c =
-    let l = c .before .before in
-    let r = l .before .before .before .before in
-    let f = r .before .before .before in
-    let a = f .before .before .before .args in
-    l .look4 .ensures (now (a .input)) (λ i. f .shared-slice-known .given i .fits) (subst Question (sym (r .enum-told6 .given .1)) tt)
+    l .look .ensures (now (a .input)) (λ i. f .shared-slice-known .given i .fits) (others-ask (a .request) (r .match .keys5))
 
 pub call-spec : {M : Type 1} → statement M
 call-spec =
@@ -197,14 +125,7 @@ call-spec =
     add-requires
     enum-told-2
     propose-requires
-    enum-told-3
     look-requires
-    enum-told-4
-    look-requires-2
-    enum-told-5
-    look-requires-3
-    enum-told-6
-    look-requires-4
     same-length
     same-length-2
     returns
@@ -220,16 +141,4 @@ call-spec =
     same-length-9
     same-length-10
     same-length-11
-    returns-5
-    same-length-12
-    same-length-13
-    same-length-14
-    returns-6
-    same-length-15
-    same-length-16
-    same-length-17
-    returns-7
-    same-length-18
-    same-length-19
-    same-length-20
-    returns-8)
+    returns-5)

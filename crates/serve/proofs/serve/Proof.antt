@@ -1,6 +1,5 @@
 -- `serve::serve` meets its contract. Assumes nothing.
-use mathlib.Core.Path.{sym, subst}
-use Rattle.store.specs.Trace.{Question}
+use Rattle.store.proofs.Rules.{others-ask}
 use borrow.Author.Needs.{needs}
 use Rattle.serve.proofs.serve.Statement.{statement}
 use Rattle.serve.proofs.serve.Tie as tie
@@ -29,29 +28,8 @@ enum-told-2 c = search needs
 propose-requires : tie.Need-propose-requires
 propose-requires c κs = search needs
 
-enum-told-3 : tie.Need-enum-told-3
-enum-told-3 c = search needs
-
 ask-requires : tie.Need-ask-requires
 ask-requires c κs = search needs
-
-enum-told-4 : tie.Need-enum-told-4
-enum-told-4 c = search needs
-
-ask-requires-2 : tie.Need-ask-requires-2
-ask-requires-2 c κs = search needs
-
-enum-told-5 : tie.Need-enum-told-5
-enum-told-5 c = search needs
-
-ask-requires-3 : tie.Need-ask-requires-3
-ask-requires-3 c κs = search needs
-
-enum-told-6 : tie.Need-enum-told-6
-enum-told-6 c = search needs
-
-ask-requires-4 : tie.Need-ask-requires-4
-ask-requires-4 c κs = search needs
 
 returns : tie.Need-returns
 returns c = let t = c .before in
@@ -83,39 +61,9 @@ same-length c = search needs
 returns-5 : tie.Need-returns-5
 returns-5 c = let a = c .before .before in
     let t = a .before .before in
-    let b = t .before .before .before in
+    let b = t .before .before in
     let s = b .before in
-    ((λ i. b .shared-slice-known .given i .fits), a .ask .ensures (s .args .input .now) (subst Question (sym (t .enum-told3 .given .1)) tt))
-
-same-length-2 : tie.Need-same-length-2
-same-length-2 c = search needs
-
-returns-6 : tie.Need-returns-6
-returns-6 c = let a = c .before .before in
-    let t = a .before .before in
-    let b = t .before .before .before in
-    let s = b .before in
-    ((λ i. b .shared-slice-known .given i .fits), a .ask2 .ensures (s .args .input .now) (subst Question (sym (t .enum-told4 .given .1)) tt))
-
-same-length-3 : tie.Need-same-length-3
-same-length-3 c = search needs
-
-returns-7 : tie.Need-returns-7
-returns-7 c = let a = c .before .before in
-    let t = a .before .before in
-    let b = t .before .before .before in
-    let s = b .before in
-    ((λ i. b .shared-slice-known .given i .fits), a .ask3 .ensures (s .args .input .now) (subst Question (sym (t .enum-told5 .given .1)) tt))
-
-same-length-4 : tie.Need-same-length-4
-same-length-4 c = search needs
-
-returns-8 : tie.Need-returns-8
-returns-8 c = let a = c .before .before in
-    let t = a .before .before in
-    let b = t .before .before .before in
-    let s = b .before in
-    ((λ i. b .shared-slice-known .given i .fits), a .ask4 .ensures (s .args .input .now) (subst Question (sym (t .enum-told6 .given .1)) tt))
+    ((λ i. b .shared-slice-known .given i .fits), a .ask .ensures (s .args .input .now) (others-ask (s .args .request) (t .match .keys5)))
 
 pub serve-spec : {M : Type 1} → statement M
 serve-spec =
@@ -129,23 +77,10 @@ serve-spec =
     add-requires
     enum-told-2
     propose-requires
-    enum-told-3
     ask-requires
-    enum-told-4
-    ask-requires-2
-    enum-told-5
-    ask-requires-3
-    enum-told-6
-    ask-requires-4
     returns
     returns-2
     returns-3
     returns-4
     same-length
-    returns-5
-    same-length-2
-    returns-6
-    same-length-3
-    returns-7
-    same-length-4
-    returns-8)
+    returns-5)

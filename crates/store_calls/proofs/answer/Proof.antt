@@ -1,5 +1,5 @@
 -- `store_calls::answer` meets its contract. Assumes nothing.
-use mathlib.Core.Path.{_≡_, sym, ap, _∙_}
+use mathlib.Core.Path.{_≡_, refl, sym, ap, _∙_}
 use mathlib.Core.Bool.{false}
 use mathlib.Core.List.{[], _∷_}
 use native.Mathlib.Omega.{arith}
@@ -13,10 +13,10 @@ use Rattle.tables.specs.Tables.{lentPlan, Kept}
 use Rattle.held_state.specs.Held.{State, corrupt}
 use Rattle.held_state.specs.Values.{Stands, refuses}
 use Rattle.store.specs.declared.Request.{Request}
-use Rattle.store.specs.declared.Request.the-variants.{Load, Change, Add, Propose, Share, Depot, Difference, Written}
+use Rattle.store.specs.declared.Request.the-variants.{Load, Change, Add, Propose, Share, Depot, Difference, Written, AtLeast}
 use Rattle.store.specs.Trace.{Question}
 use Rattle.store.proofs.Request.{the-type}
-use Rattle.store_calls.proofs.Questions.{zero-told, wants-told, share-told, depot-told, difference-told, written-told}
+use Rattle.store_calls.proofs.Questions.{zero-told, wants-told, share-told, depot-told, difference-told, written-told, at-least-told}
 use Rattle.store_calls.proofs.answer.Statement.{statement}
 use Rattle.store_calls.proofs.answer.Tie as tie
 
@@ -55,6 +55,7 @@ no-other (Share i) q h = miss (0 ∷ 1 ∷ 2 ∷ 3 ∷ []) 4 tt h
 no-other (Depot d) q h = miss (0 ∷ 1 ∷ 2 ∷ 3 ∷ []) 5 tt h
 no-other (Difference a d) q h = miss (0 ∷ 1 ∷ 2 ∷ 3 ∷ []) 6 tt h
 no-other Written q h = miss (0 ∷ 1 ∷ 2 ∷ 3 ∷ []) 7 tt h
+no-other (AtLeast m) q h = miss (0 ∷ 1 ∷ 2 ∷ 3 ∷ []) 8 tt h
 
 slice-aggregate-examine : tie.Need-slice-aggregate-examine
 slice-aggregate-examine c = search needs
@@ -124,6 +125,15 @@ written-requires c κs =
     let k = kept p in
     (s .pre .0, omega (arith, groups-length p, k .ready .counted .groups), omega (arith, shares-length p, k .ready .counted .sites))
 
+enum-known-request-4 : tie.Need-enum-known-request-4
+enum-known-request-4 c = search needs
+
+slice-aggregate-at-least : tie.Need-slice-aggregate-at-least
+slice-aggregate-at-least c = let asked = c .before .before in sym (groups-length (asked .before .before))
+
+at-least-requires : tie.Need-at-least-requires
+at-least-requires c κs = let asked = c .before .before in let p = asked .before .before in (_, _, _, kept p, refl)
+
 returns-3 : tie.Need-returns-3
 returns-3 c = λ x input e q st.
     let asked = c .before .before .before in
@@ -153,7 +163,13 @@ returns-6 c = λ x input e q st.
     written-told st (intact p x st) (not-false _ (p .if1 .left)) (kept p) input _ _ _ _ _ e (asked .enum-told3 .given .1) (done .written .ensures)
 
 returns-7 : tie.Need-returns-7
-returns-7 c = λ x input e q st. let p = c .before in absurd (no-other (start p .args .request) q (c .match2 .keys5))
+returns-7 c = λ x input e q st.
+    let asked = c .before .before .before in
+    let p = asked .before .before in
+    at-least-told st (intact p x st) (not-false _ (p .if1 .left)) (kept p) input _ _ _ _ _ (asked .request4 .given .1) refl (c .at-least .ensures _ _ _ (kept p) refl)
+
+returns-8 : tie.Need-returns-8
+returns-8 c = λ x input e q st. let p = c .before in absurd (no-other (start p .args .request) q (c .match2 .keys6))
 
 pub answer-spec : {M : Type 1} → statement M
 answer-spec =
@@ -176,9 +192,13 @@ answer-spec =
     slice-aggregate-written
     slice-aggregate-written-2
     written-requires
+    enum-known-request-4
+    slice-aggregate-at-least
+    at-least-requires
     returns-3
     returns-4
     returns-5
     same-length
     returns-6
-    returns-7)
+    returns-7
+    returns-8)
