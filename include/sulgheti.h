@@ -49,7 +49,9 @@
 
 /* The stack in bytes that suffices for sulgheti_check, for sulgheti_make, for sulgheti_fresh, for a question
  * (share, depot, difference, written, at_least), and for any other call of the desk (load, change, add,
- * propose). Measured at 512 sites and rounded up; the frames have fixed sizes, and nothing recurses.
+ * propose). Measured at 512 sites and rounded up; the frames have fixed sizes, and nothing recurses. Under lazy
+ * binding the program's first call of memcpy or memset may take more, since the dynamic linker looks the function
+ * up on the same stack: some 3 KB where it was measured. The stated figures have room for that, 8,000 bytes or more.
  * tests/c/stack_t.c makes every call on so much and no more, and prints what each wrote. A thread with 128 KB of
  * stack can make every call. */
 #define SULGHETI_STACK_CHECK 49152

@@ -1,7 +1,8 @@
 /* Every exported call, at 512 sites, on a stack of the bytes that the header states: valid calls, calls that each row refuses, and
  * calls on a damaged desk. Each runs on a thread whose stack is memory of this program, with pages below it that cannot be touched;
  * what the stack has above the stated bytes is passed over before the call, so that a call that needs more faults, and is named.
- * Prints the most that each call was seen to write. */
+ * Prints the most that each call was seen to write: its own stack alone where the program is linked with -z now, so that nothing
+ * is looked up within a call. */
 #define _GNU_SOURCE
 #include <alloca.h>
 #include <pthread.h>

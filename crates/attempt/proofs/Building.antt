@@ -13,11 +13,11 @@ use Rattle.sets.specs.Set.{Apart, Depots, Nonempty, _∪_, _⊆_, has}
 use Rattle.sets.proofs.Member.{has-none}
 use Rattle.sets.proofs.Test.{and-i, and-l, or-cases, or-r}
 use Rattle.density.specs.Network.{Network, Valid, counts, litres, size, touches, within}
-use Rattle.density.specs.Plan.{TruePlan, before, carrier, firstShare, group, groupSize, secondShare, union, whole}
+use Rattle.density.specs.Plan.{TruePlan, Falling, before, carrier, firstShare, group, groupSize, secondShare, union, whole}
 use Rattle.density.proofs.Level.{within-end}
 use Rattle.density.proofs.Made.{made}
 use Rattle.density.proofs.Places.{before-suc, before→, group→, →before}
-use Rattle.density.proofs.Plans.{Falling, counts-carrier, falling-of, shares}
+use Rattle.density.proofs.Plans.{counts-carrier, falling-of, shares}
 use Rattle.density.proofs.Totals.{carrier-lt}
 use Rattle.residual.specs.Array.{at}
 use Rattle.residual.proofs.Laws.{below?}

@@ -12,7 +12,7 @@ use lib.ListN.{length}
 use Rattle.sets.specs.Sum.{any}
 use Rattle.sets.specs.Set.{_∩_, isEmpty}
 use Rattle.density.specs.Network.{Network, Valid}
-use Rattle.density.specs.Plan.{union, group, before, place, carrier, whole, firstShare, secondShare, Rules, load, target, Shared, Formed, TruePlan}
+use Rattle.density.specs.Plan.{union, group, before, place, carrier, whole, firstShare, secondShare, Rules, load, target, Shared, Formed, TruePlan, Falling}
 use Rattle.density.specs.Rows.{firstRow, groupsMeet, groupsUnlisted, shareBroken, sharesBroken, scaledLoad, loadsUneven, groupsRise, planRows}
 use Rattle.sets.proofs.Test.{or-l, or-r, or-cases, and-i, and-l, and-r, T-ext, eq→eqb}
 use Rattle.sets.proofs.Sum.{any-at, any-from}
@@ -20,7 +20,7 @@ use Rattle.sets.proofs.Member.{member-lt}
 use Rattle.sets.proofs.Set.{empty→, →disjoint}
 use Rattle.density.proofs.Rows.{Clear, clear→, →clear}
 use Rattle.density.proofs.Places.{→group}
-use Rattle.density.proofs.Plans.{Falling, union→, sound, complete}
+use Rattle.density.proofs.Plans.{union→, sound, complete}
 use Rattle.density.proofs.Totals.{scaled-load}
 
 -- a test that fails

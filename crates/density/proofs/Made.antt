@@ -8,12 +8,12 @@ use native.Mathlib.Omega.{arith}
 use lib.Dec.{T, eqb-refl}
 use lib.ListN.{length}
 use Rattle.density.specs.Network.{Network, Valid, counts, litres}
-use Rattle.density.specs.Plan.{place, group, before, carrier, groupSize, whole, firstShare, secondShare, Rules, shareOf, load, target, Shared, Formed, TruePlan}
+use Rattle.density.specs.Plan.{place, group, before, carrier, groupSize, whole, firstShare, secondShare, Rules, shareOf, load, target, Shared, Formed, TruePlan, Falling}
 use Rattle.sets.proofs.Test.{when-cong}
 use Rattle.sets.proofs.Sum.{sum-cong}
 use Rattle.density.proofs.Level.{Spread, loadOf}
 use Rattle.density.proofs.Places.{→group, →before}
-use Rattle.density.proofs.Plans.{shares, Falling, union→, counts-carrier, group-litres, sound}
+use Rattle.density.proofs.Plans.{shares, union→, counts-carrier, group-litres, sound}
 use Rattle.density.proofs.Totals.{carrier-lt}
 
 module _ (N : Network) (ok : Valid N) (gs ss : List ℕ) (f : Falling N gs)

@@ -10,11 +10,11 @@ use lib.Dec.{T, eqb, eqb→eq}
 use lib.ListN.{length}
 use lib.Seq.{take-length}
 use Rattle.sets.specs.Sum.{all}
-use Rattle.sets.specs.Set.{Depots, ∅, _∪_, _⊆_, Apart, Nonempty}
+use Rattle.sets.specs.Set.{Depots, ∅, _∪_, _⊆_, Apart}
 use Rattle.density.specs.Network.{Network, Valid, touches, within, counts, litres, size, end}
 use Rattle.density.specs.declared.Site.{Site}
 use Rattle.density.specs.Groups.{Candidate, Next, Decomposition}
-use Rattle.density.specs.Plan.{union, group, before, place, carrier, groupSize, groupLitres, whole, firstShare, secondShare, Rules, shareOf, load, target, Shared}
+use Rattle.density.specs.Plan.{union, group, before, place, carrier, groupSize, groupLitres, whole, firstShare, secondShare, Rules, shareOf, load, target, Shared, Falling}
 use Rattle.sets.proofs.Test.{or-l, or-r, or-cases, and-i, and-l, and-r, T-ext, eq→eqb, when-cong}
 use Rattle.sets.proofs.Sum.{sum-cong}
 use Rattle.density.proofs.Next.{falls}
@@ -31,13 +31,6 @@ shares N gs ss false = secondShare N gs ss
 pub earlier : (N : Network) (gs ss : List ℕ) (i : ℕ) → Rules N gs ss i → (e : Bool) → place gs (end e (N .site i)) < carrier gs (N .site i) → shares N gs ss e i ≡ 0
 earlier N gs ss i r true = r .first-earlier
 earlier N gs ss i r false = r .second-earlier
-
--- no group is empty or meets an earlier one, they are the listed depots, and W/q falls strictly
-pub record Falling (N : Network) (gs : List ℕ) : Type 0 where
-  pub some : (k : ℕ) → k < length gs → Nonempty (group gs k)
-  pub apart : (k : ℕ) → k < length gs → Apart (group gs k) (before gs k)
-  pub listed : (d : ℕ) → union gs d ≡ N .listed d
-  pub falls : (k : ℕ) → suc k < length gs → groupLitres N gs (suc k) * groupSize N gs k < groupLitres N gs k * groupSize N gs (suc k)
 
 -- where no group meets an earlier one, a depot is in the group at its place and in no other
 module _ (gs : List ℕ) (apart : (k : ℕ) → k < length gs → Apart (group gs k) (before gs k)) where

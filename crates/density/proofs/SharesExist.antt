@@ -16,11 +16,11 @@ use Rattle.sets.proofs.Member.{ext, setOf-lt, has-set}
 use Rattle.density.specs.declared.Site.{Site}
 use Rattle.density.specs.Network.{Listing, Network, network, depotsInRange, Valid, touches, within, counts, litres, size, end}
 use Rattle.density.specs.Groups.{Next, Decomposition, groupsOf}
-use Rattle.density.specs.Plan.{group, before, carrier, groupSize, whole, firstShare, secondShare, Formed, TruePlan}
+use Rattle.density.specs.Plan.{group, before, carrier, groupSize, whole, firstShare, secondShare, Formed, TruePlan, Falling}
 use Rattle.density.proofs.Next.{next-densest, density}
 use Rattle.density.proofs.Level.{within-end, within-ends, touches-end, Spread, loadOf}
 use Rattle.density.proofs.Places.{follow-next}
-use Rattle.density.proofs.Plans.{shares, Falling, counts-carrier, complete}
+use Rattle.density.proofs.Plans.{shares, counts-carrier, complete}
 use Rattle.density.proofs.Existence.{computed}
 use Rattle.density.proofs.Lists.{valid, end-small}
 use Rattle.density.proofs.Totals.{carrier-lt}

@@ -13,12 +13,12 @@ use Rattle.sets.specs.Sum.{when, sum, all}
 use Rattle.sets.specs.Set.{Depots}
 use Rattle.density.specs.Network.{Network, Valid, litres, size, end}
 use Rattle.density.specs.declared.Site.{Site}
-use Rattle.density.specs.Plan.{union, group, place, carrier, groupLitres, firstShare, secondShare, Rules, shareOf, load}
+use Rattle.density.specs.Plan.{union, group, place, carrier, groupLitres, firstShare, secondShare, Rules, shareOf, load, Falling}
 use Rattle.density.specs.Rows.{scaledLoad}
 use Rattle.sets.proofs.Test.{T?, eq→eqb, when-on, when-off, when-≤, when-mono}
 use Rattle.sets.proofs.Sum.{sum-cong, sum-mono, sum-zero, sum-swap, sum-pick, sum-const, sum-≤, sum-term}
 use Rattle.sets.proofs.Weigh.{weigh-le}
-use Rattle.density.proofs.Plans.{shares, earlier, Falling, union→, →union, group-place}
+use Rattle.density.proofs.Plans.{shares, earlier, union→, →union, group-place}
 
 module _ (N : Network) (ok : Valid N) (gs : List ℕ) (all : (d : ℕ) → union gs d ≡ N .listed d) where
   -- the group that carries a site is one of the plan's

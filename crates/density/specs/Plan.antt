@@ -7,7 +7,7 @@ use Prim.Native.Nat.{ℕ, suc, _+_, _-_, _*_, _≤_, _<_, _^_, max}
 use lib.Dec.{T, eqb}
 use lib.ListN.{length, getD, take}
 use Rattle.sets.specs.Sum.{when, sum}
-use Rattle.sets.specs.Set.{Depots, ∅, _∪_, has}
+use Rattle.sets.specs.Set.{Depots, ∅, _∪_, Apart, Nonempty, has}
 use Rattle.density.specs.declared.Site.{Site}
 use Rattle.density.specs.Network.{Network, size}
 use Rattle.density.specs.Groups.{Decomposition}
@@ -83,3 +83,11 @@ pub record TruePlan (N : Network) (gs ss : List ℕ) : Type 0 where
   pub form : Formed N gs ss
   pub groups : Decomposition N gs
   pub shares : Shared N gs ss
+
+-- Rows 12, 13 and 16 test this of the groups, and `sound` and `complete` (`proofs/Plans`) speak of it: no group is empty or meets an earlier one,
+-- together they are the listed depots, and W/q falls strictly, compared by cross-multiplying.
+pub record Falling (N : Network) (gs : List ℕ) : Type 0 where
+  pub some : (k : ℕ) → k < length gs → Nonempty (group gs k)
+  pub apart : (k : ℕ) → k < length gs → Apart (group gs k) (before gs k)
+  pub listed : (d : ℕ) → union gs d ≡ N .listed d
+  pub falls : (k : ℕ) → suc k < length gs → groupLitres N gs (suc k) * groupSize N gs k < groupLitres N gs k * groupSize N gs (suc k)

@@ -15,10 +15,9 @@ use base.Logic.{SProp}
 use denote.Ref.{RefT, now}
 use lib.IntN.{ℤ}
 use Rattle.records.specs.Format.{edition1}
-use Rattle.store.specs.declared.Request.{Request}
 use Rattle.store.specs.declared.Request.the-variants.{Load, Change, Add, Propose, Share, Depot, Difference, Written, AtLeast}
-use Rattle.store.specs.Calls.{Call}
 use Rattle.codes.specs.Codes.{Did, Figures, OneFigure, Differs, WroteOut, FreshCode}
+use Rattle.desk.specs.Exports.{asked}
 use Rattle.desk.proofs.sulgheti_fresh as of-fresh
 use Rattle.desk.proofs.sulgheti_load as of-load
 use Rattle.desk.proofs.sulgheti_change as of-change
@@ -29,9 +28,6 @@ use Rattle.desk.proofs.sulgheti_depot as of-depot
 use Rattle.desk.proofs.sulgheti_difference as of-difference
 use Rattle.desk.proofs.sulgheti_written as of-written
 use Rattle.desk.proofs.sulgheti_at_least as of-at-least
-
-abbrev asked : Request → List ℕ → List ℕ → Call
-asked q input buffer = record { request = q; input = input; buffer = buffer }
 
 module _ {M : Type 1} (𝓤 : URA M) (H : Heap 𝓤) (A : Atoms 𝓤) (mem : Memory → SProp 𝓤) (run : Routine → Fun 𝓤) (s s' : RefT (List ℕ)) where
   open Connectives (connectives 𝓤) using (⌜_⌝, ⊤ₛ)

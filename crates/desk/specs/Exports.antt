@@ -46,9 +46,12 @@ pub data Calls (e : Edition) : List ℕ → List ℕ → List Call → List Give
   next : {s t s₁ t₁ s' t' : List ℕ} {c : Call} {cs : List Call} {g : Given} {gs : List Given}
       → Exported e s t c g s₁ t₁ → Calls e s₁ t₁ cs gs s' t' → Calls e s t (c ∷ cs) (g ∷ gs) s' t'
 
--- a question, which is given neither input nor buffer
+-- a call for a request with its input and buffer; a question, which is given neither
+abbrev pub asked : Request → List ℕ → List ℕ → Call
+asked q input buffer = record { request = q; input = input; buffer = buffer }
+
 abbrev pub question : Request → Call
-question q = record { request = q; input = []; buffer = [] }
+question q = asked q [] []
 
 -- "Two desks hold the same list if their books' lists are equal": each W, q, w × q, difference and set of depots that the same question
 -- then gets of both, with the code 0, is the same; s is that of each one's plan.

@@ -1,5 +1,5 @@
--- The contracts of the functions over lent bytes, as the program logic has them, say what `Freshened` and `Called` say, and ask the widths and the length: by
--- computation, so a changed contract is refused here. So any calls, from the bytes that `fresh` writes and a table of any bytes, are a history of document 01.
+-- The contracts of the functions over lent bytes, as the program logic has them, say what `Freshened` and `Called` say, and ask the widths, the length and, of `look`,
+-- a question: by computation, so a changed contract is refused here. So any calls, from the bytes that `fresh` writes and a table of any bytes, are a history of document 01.
 -- Assumes nothing.
 use mathlib.Core.Path.{_≡_, refl, ap, ap₂, _∙_, subst}
 use mathlib.Core.Bool.{Bool, true, false, cond}
@@ -101,11 +101,11 @@ module _ {M : Type 1} (𝓤 : URA M) (H : Heap 𝓤) (A : Atoms 𝓤) (mem : Mem
   module _ (κs : Lfts 3) (store store' table table' : RefT (List ℕ)) (q : Request) (buffer buffer' : RefT (List ℕ)) where
     look-says : (r : Answer)
         → of-look.clauses 𝓤 H A mem run κs (e, (store, (table, (q, (buffer, tt))))) .ensures tt r (e, (store', (table', (q, (buffer', tt)))))
-        ≡ ⌜ ((input : List ℕ) → Bytes input → Question q
+        ≡ ⌜ ((input : List ℕ) → Bytes input
         → Called e (now store) (now table) (record { request = q; input = input; buffer = now buffer }) (told r) (now store) (now table) (now buffer')) ⌝
     look-says r = refl
 
-    look-asks : of-look.clauses 𝓤 H A mem run κs (e, (store, (table, (q, (buffer, tt))))) .requires tt ≡ ⌜ Fitting e × (isOf e (now store) ≡ true) ⌝
+    look-asks : of-look.clauses 𝓤 H A mem run κs (e, (store, (table, (q, (buffer, tt))))) .requires tt ≡ ⌜ Fitting e × (isOf e (now store) ≡ true) × Question q ⌝
     look-asks = refl
 
   module _ (κs : Lfts 4) (store store' table table' : RefT (List ℕ)) (q : Request) (input input' buffer buffer' : RefT (List ℕ)) where

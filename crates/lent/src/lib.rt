@@ -170,8 +170,8 @@ pub fn propose(e: Edition, store: &mut [u8], table: &[u8], input: &[u8]) -> Answ
 
 // A question, or the plan written out: store and table are only read.
 pub fn look(e: Edition, store: &[u8], table: &[u8], request: Request, buffer: &mut [u8]) -> Answer
-    requires { ⌜ Fitting e × (isOf e (now store) ≡ true) ⌝ }
-    ensures { λ r. ⌜ ((input : List ℕ) → Bytes input → Question request → Called e (now (store .entry)) (now (table .entry)) (record { request = request; input = input; buffer = now (buffer .entry) }) (told r) (now (store .entry)) (now (table .entry)) (now (buffer .exit))) ⌝ }
+    requires { ⌜ Fitting e × (isOf e (now store) ≡ true) × Question request ⌝ }
+    ensures { λ r. ⌜ ((input : List ℕ) → Bytes input → Called e (now (store .entry)) (now (table .entry)) (record { request = request; input = input; buffer = now (buffer .entry) }) (told r) (now (store .entry)) (now (table .entry)) (now (buffer .exit))) ⌝ }
 {
     let mut groups = [0u64; 64];
     let mut shares = [0u64; 512];

@@ -140,8 +140,8 @@ fn ask(
     request: Request,
     buffer: &mut [u8],
 ) -> Decision
-    requires { ⌜ e .share ≤ 8 ⌝ }
-    ensures { λ r. ⌜ ((input : List ℕ) → Question request → Served e store sites places request input (now (buffer .entry)) r (now (buffer .exit))) ⌝ }
+    requires { ⌜ (e .share ≤ 8) × Question request ⌝ }
+    ensures { λ r. ⌜ ((input : List ℕ) → Served e store sites places request input (now (buffer .entry)) r (now (buffer .exit))) ⌝ }
 {
     let count = store.count;
     let known = summary(store, sites, places);

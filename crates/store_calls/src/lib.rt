@@ -139,7 +139,7 @@ fn written(e: Edition, groups: &[u64], shares: &[u64], buffer: &mut [u8]) -> Ans
     }
 }
 
-// The answer to a question: row 0 is tried once, and the tables that it leaves are what is answered from.
+// The answer to a question: row 0 is tried once, and the tables that it leaves are what is answered from. The last arm is never taken: no other request is a question.
 pub fn answer(
     e: Edition,
     list: ListArray,
@@ -149,8 +149,8 @@ pub fn answer(
     request: Request,
     buffer: &mut [u8],
 ) -> Answer
-    requires { ⌜ (e .share ≤ 8) × (length (now groups) ≡ 64) × (length (now shares) ≡ 512) × BadKnown list known ⌝ }
-    ensures { λ r. ⌜ ((s : State) (input : List ℕ) → s .edition ≡ e → Question request → Stands s list known (now (groups .entry)) (now (shares .entry)) → record { answer = told r; buffer = now (buffer .exit) } ≡ step s (record { request = request; input = input; buffer = now (buffer .entry) }) .reply) ⌝ }
+    requires { ⌜ (e .share ≤ 8) × (length (now groups) ≡ 64) × (length (now shares) ≡ 512) × BadKnown list known × Question request ⌝ }
+    ensures { λ r. ⌜ ((s : State) (input : List ℕ) → s .edition ≡ e → Stands s list known (now (groups .entry)) (now (shares .entry)) → record { answer = told r; buffer = now (buffer .exit) } ≡ step s (record { request = request; input = input; buffer = now (buffer .entry) }) .reply) ⌝ }
 {
     let count = list.count;
     let mut wholes = [0u64; 512];

@@ -24,7 +24,8 @@ look-requires : tie.Need-look-requires
 look-requires c κs =
     let tested = c .before .before in
     let entry = tested .before .before .before .before in
-    asks (entry .args .store .now) (c .before .edition1 .ensures) (is-store (tested .before .is-store1 .ensures) (tested .if1 .left))
+    let a = asks (entry .args .store .now) (c .before .edition1 .ensures) (is-store (tested .before .is-store1 .ensures) (tested .if1 .left)) in
+    (a .0, a .1, entry .pre)
 
 outcome-requires : tie.Need-outcome-requires
 outcome-requires c κs = search needs
@@ -34,9 +35,8 @@ returns-2 c =
     let looked = c .before .before .before .before .before in
     let edition = looked .before .before in
     let tested = edition .before in
-    let entry = tested .before .before .before .before in
     let told = c .before .outcome .ensures in
-    figures (is-store (tested .before .is-store1 .ensures) (tested .if1 .left)) (rw (edition .edition1 .ensures) at (looked .look .ensures [] no-bytes (entry .pre)))
+    figures (is-store (tested .before .is-store1 .ensures) (tested .if1 .left)) (rw (edition .edition1 .ensures) at (looked .look .ensures [] no-bytes))
     (read-back (c .struct-told .given .0 .1) ∙ ap (λ (o : Coded). o .code) told)
     (ap (λ (o : Coded). o .first) told) (ap (λ (o : Coded). o .second) told)
 

@@ -24,7 +24,8 @@ look-requires : tie.Need-look-requires
 look-requires c κs =
     let tested = c .before .before in
     let entry = tested .before .before .before .before in
-    asks (entry .args .store .now) (c .before .edition1 .ensures) (is-store (tested .before .is-store1 .ensures) (tested .if1 .left))
+    let a = asks (entry .args .store .now) (c .before .edition1 .ensures) (is-store (tested .before .is-store1 .ensures) (tested .if1 .left)) in
+    (a .0, a .1, tt)
 
 outcome-requires : tie.Need-outcome-requires
 outcome-requires c κs = search needs
@@ -36,7 +37,7 @@ returns-2 c =
     let edition = looked .before .before in
     let tested = edition .before in
     let told = c .before .before .outcome .ensures in
-    differs (is-store (tested .before .is-store1 .ensures) (tested .if1 .left)) (rw (edition .edition1 .ensures) at (looked .look .ensures [] no-bytes tt))
+    differs (is-store (tested .before .is-store1 .ensures) (tested .if1 .left)) (rw (edition .edition1 .ensures) at (looked .look .ensures [] no-bytes))
     (read-back (c .struct-told2 .given .0 .1) ∙ ap (λ (o : Coded). o .code) told)
     (read-back (c .struct-told2 .given .1 .1 .1 .0 .1) ∙ ap (λ (o : Coded). o .difference) told)
     (read-back (x .x .given))

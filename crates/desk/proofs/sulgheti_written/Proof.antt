@@ -20,14 +20,15 @@ look-requires : tie.Need-look-requires
 look-requires c κs =
     let tested = c .before .before in
     let entry = tested .before .before .before .before .before in
-    asks (entry .args .store .now) (c .before .edition1 .ensures) (is-store (tested .before .is-store1 .ensures) (tested .if1 .left))
+    let a = asks (entry .args .store .now) (c .before .edition1 .ensures) (is-store (tested .before .is-store1 .ensures) (tested .if1 .left)) in
+    (a .0, a .1, tt)
 
 written-requires : tie.Need-written-requires
 written-requires c κs =
     let looked = c .before .before in
     let tested = looked .before .before .before in
     let entry = tested .before .before .before .before .before in
-    length-held (entry .args .buffer .now) (looked .look .ensures [] no-bytes tt) (entry .good .1 .1 .0 .1)
+    length-held (entry .args .buffer .now) (looked .look .ensures [] no-bytes) (entry .good .1 .1 .0 .1)
 
 same-length : tie.Need-same-length
 same-length c = search needs
@@ -37,7 +38,7 @@ returns-2 c =
     let looked = c .before .before .before in
     let edition = looked .before .before in
     let tested = edition .before in
-    wrote-out (is-store (tested .before .is-store1 .ensures) (tested .if1 .left)) (rw (edition .edition1 .ensures) at (looked .look .ensures [] no-bytes tt))
+    wrote-out (is-store (tested .before .is-store1 .ensures) (tested .if1 .left)) (rw (edition .edition1 .ensures) at (looked .look .ensures [] no-bytes))
     (read-back (c .written .ok) ∙ c .written .ensures)
 
 pub sulgheti-written-spec : {M : Type 1} → statement M

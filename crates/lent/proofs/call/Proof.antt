@@ -40,7 +40,10 @@ propose-requires : tie.Need-propose-requires
 propose-requires c κs = search needs
 
 look-requires : tie.Need-look-requires
-look-requires c κs = search needs
+look-requires c κs =
+    let r = c .before .before .before in
+    let s = r .before .before .before .before .before in
+    (s .pre .0, s .pre .1, others-ask (s .args .request) (r .match .keys5))
 
 same-length : tie.Need-same-length
 same-length c = search needs
@@ -111,7 +114,7 @@ returns-5 c =
     let r = l .before .before .before .before in
     let f = r .before .before in
     let a = f .before .before .before .args in
-    l .look .ensures (now (a .input)) (λ i. f .shared-slice-known .given i .fits) (others-ask (a .request) (r .match .keys5))
+    l .look .ensures (now (a .input)) (λ i. f .shared-slice-known .given i .fits)
 
 pub call-spec : {M : Type 1} → statement M
 call-spec =

@@ -54,18 +54,18 @@ answer-requires : tie.Need-answer-requires
 answer-requires c κs =
     let k = c .before .before .before in
     let l = k .before .list-in in
-    (start k .pre .0 .1, search needs, search needs, k .summary .ensures .3 (l .result) (l .ensures .0) (l .ensures .1))
+    (start k .pre .0 .1, search needs, search needs, k .summary .ensures .3 (l .result) (l .ensures .0) (l .ensures .1), start k .pre .2)
 
 same-length : tie.Need-same-length
 same-length c = search needs
 
 returns : tie.Need-returns
-returns c = λ input b q.
+returns c = λ input b.
     let r = c .before .before in
     let k = r .before .before .before .before in
     let a = start k .args in
-    asks (a .e) (now (a .store)) (now (a .table)) (record { request = a .request; input = input; buffer = now (a .buffer) }) b q
-    (r .answer .ensures (state k) input refl q (standing k))
+    asks (a .e) (now (a .store)) (now (a .table)) (record { request = a .request; input = input; buffer = now (a .buffer) }) b (start k .pre .2)
+    (r .answer .ensures (state k) input refl (standing k))
 
 pub look-spec : {M : Type 1} → statement M
 look-spec =

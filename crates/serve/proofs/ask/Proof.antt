@@ -21,14 +21,14 @@ same-length : tie.Need-same-length
 same-length c = search needs
 
 returns : tie.Need-returns
-returns c = λ input question.
+returns c = λ input.
     let a = c .before .before in
     let b = a .before .before .before in
     let k = b .before .before .before in
     let s = k .before .before in
     let known = k .summary .ensures in
-    asked (s .args .store) (s .args .sites) (s .args .places) (s .args .e) input (s .args .buffer .now) _ (s .args .request) (a .answer .result) _ question
-    (λ table p h. a .answer .ensures _ input refl question (stands (s .args .store) (s .args .sites) (s .args .places) _ (known .0) (known .1) (known .2) (s .args .e) table p h)) refl
+    asked (s .args .store) (s .args .sites) (s .args .places) (s .args .e) input (s .args .buffer .now) _ (s .args .request) (a .answer .result) _ (s .pre .1)
+    (λ table p h. a .answer .ensures _ input refl (stands (s .args .store) (s .args .sites) (s .args .places) _ (known .0) (known .1) (known .2) (s .args .e) table p h)) refl
 
 pub ask-spec : {M : Type 1} → statement M
 ask-spec =

@@ -29,7 +29,10 @@ propose-requires : tie.Need-propose-requires
 propose-requires c κs = search needs
 
 ask-requires : tie.Need-ask-requires
-ask-requires c κs = search needs
+ask-requires c κs =
+    let t = c .before in
+    let s = t .before .before .before in
+    (s .pre .1, others-ask (s .args .request) (t .match .keys5))
 
 returns : tie.Need-returns
 returns c = let t = c .before in
@@ -63,7 +66,7 @@ returns-5 c = let a = c .before .before in
     let t = a .before .before in
     let b = t .before .before in
     let s = b .before in
-    ((λ i. b .shared-slice-known .given i .fits), a .ask .ensures (s .args .input .now) (others-ask (s .args .request) (t .match .keys5)))
+    ((λ i. b .shared-slice-known .given i .fits), a .ask .ensures (s .args .input .now))
 
 pub serve-spec : {M : Type 1} → statement M
 serve-spec =

@@ -67,21 +67,21 @@ enum-told : tie.Need-enum-told
 enum-told c = search needs
 
 returns : tie.Need-returns
-returns c = λ x input e q st.
+returns c = λ x input e st.
     let tried = c .before .before .before in
     let s = tried .before .before .before .before .before in
-    zero-told x (record { request = s .args .request; input = input; buffer = s .args .buffer .now }) q
+    zero-told x (record { request = s .args .request; input = input; buffer = s .args .buffer .now }) (s .pre .4)
     (sym (tried .examine .ensures .zero x st) ∙ ap refuses (c .enum-told .given .1))
 
 enum-told-2 : tie.Need-enum-told-2
 enum-told-2 c = search needs
 
 returns-2 : tie.Need-returns-2
-returns-2 c = λ x input e q st.
+returns-2 c = λ x input e st.
     let told = c .before .before in
     let tried = told .before .before .before in
     let s = tried .before .before .before .before .before in
-    wants-told x (record { request = s .args .request; input = input; buffer = s .args .buffer .now }) q
+    wants-told x (record { request = s .args .request; input = input; buffer = s .args .buffer .now }) (s .pre .4)
     (sym (tried .examine .ensures .zero x st) ∙ ap refuses (told .enum-told2 .given .1)) (sym (st .held) ∙ not-true _ (c .if1 .taken))
 
 enum-known-request : tie.Need-enum-known-request
@@ -135,19 +135,19 @@ at-least-requires : tie.Need-at-least-requires
 at-least-requires c κs = let asked = c .before .before in let p = asked .before .before in (_, _, _, kept p, refl)
 
 returns-3 : tie.Need-returns-3
-returns-3 c = λ x input e q st.
+returns-3 c = λ x input e st.
     let asked = c .before .before .before in
     let p = asked .before .before in
     share-told st (intact p x st) (not-false _ (p .if1 .left)) (kept p) input _ _ _ _ (asked .request .given .1) (c .share-told .ensures)
 
 returns-4 : tie.Need-returns-4
-returns-4 c = λ x input e q st.
+returns-4 c = λ x input e st.
     let asked = c .before .before in
     let p = asked .before .before in
     depot-told st (intact p x st) (not-false _ (p .if1 .left)) (kept p) input _ _ _ _ (asked .request2 .given .1) (c .depot-told .ensures _ _ _ (kept p))
 
 returns-5 : tie.Need-returns-5
-returns-5 c = λ x input e q st.
+returns-5 c = λ x input e st.
     let asked = c .before .before in
     let p = asked .before .before in
     difference-told st (intact p x st) (not-false _ (p .if1 .left)) (kept p) input _ _ _ _ _ (asked .request3 .given .1) (c .difference-told .ensures _ _ _ (kept p))
@@ -156,20 +156,20 @@ same-length : tie.Need-same-length
 same-length c = search needs
 
 returns-6 : tie.Need-returns-6
-returns-6 c = λ x input e q st.
+returns-6 c = λ x input e st.
     let done = c .before .before in
     let asked = done .before .before .before .before in
     let p = asked .before .before in
     written-told st (intact p x st) (not-false _ (p .if1 .left)) (kept p) input _ _ _ _ _ e (asked .enum-told3 .given .1) (done .written .ensures)
 
 returns-7 : tie.Need-returns-7
-returns-7 c = λ x input e q st.
+returns-7 c = λ x input e st.
     let asked = c .before .before .before in
     let p = asked .before .before in
     at-least-told st (intact p x st) (not-false _ (p .if1 .left)) (kept p) input _ _ _ _ _ (asked .request4 .given .1) refl (c .at-least .ensures _ _ _ (kept p) refl)
 
 returns-8 : tie.Need-returns-8
-returns-8 c = λ x input e q st. let p = c .before in absurd (no-other (start p .args .request) q (c .match2 .keys6))
+returns-8 c = let s = start (c .before) in absurd (no-other (s .args .request) (s .pre .4) (c .match2 .keys6))
 
 pub answer-spec : {M : Type 1} → statement M
 answer-spec =
