@@ -18,8 +18,8 @@ use Rattle.records.proofs.Records.{zeros, length-records, records-from, mul-roo
 use Rattle.records.proofs.Buffers.{Front, run-step, length-place}
 use Rattle.table.proofs.Overlay.{overlay-none, overlay-same, overlay-set}
 use Rattle.store.specs.State.{bare}
-use Rattle.layout.specs.Layout.{storeSize, placeSize, placesIn, storeBytes, storeIn, numbers, placeBytes, placeIn, siteOfNumber, sitesIn, tableOver, PutStore, PutSites}
-use Rattle.layout.proofs.RoundTrip.{SiteFits, map-at, place-back, length-place as length-bytes, length-store, length-sites, site-here, places-room, all-over, store-back, table-back, table-again}
+use Rattle.layout.specs.Layout.{storeSize, placeSize, placesIn, storeBytes, storeIn, numbers, placeBytes, placeIn, siteOfNumber, sitesIn, tableOver, SiteFits, PutStore, PutSites}
+use Rattle.layout.proofs.RoundTrip.{map-at, place-back, length-place as length-bytes, length-store, length-sites, site-here, places-room, all-over, store-back, table-back, table-again}
 
 -- ---- numbers
 

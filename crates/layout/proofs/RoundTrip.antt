@@ -21,7 +21,7 @@ use Rattle.records.proofs.Buffers.{Front, flat-append, length-flat}
 use Rattle.table.specs.Table.{overlay}
 use Rattle.table.proofs.Overlay.{map-take, map-drop}
 use Rattle.held_state.specs.declared.Store.{Store}
-use Rattle.layout.specs.Layout.{storeSize, placeSize, placesIn, storeBytes, numbers, storeAt, noStore, storeIn, placeBytes, placeIn, sitesIn, tableOver, StoreRead, PutStore}
+use Rattle.layout.specs.Layout.{storeSize, placeSize, placesIn, storeBytes, numbers, storeAt, noStore, storeIn, placeBytes, placeIn, sitesIn, tableOver, StoreFits, SiteFits, StoreRead, PutStore}
 
 -- ---- numbers, one after another
 
@@ -35,15 +35,6 @@ numbers-back-last : (w : ℕ) (xs : List ℕ) (n : ℕ) → length xs ≡ n → 
 numbers-back-last w xs n h f = rw append-nil at (numbers-back w xs [] n h f)
 
 -- ---- a store
-
--- the figures of a store have the widths of its bytes
-pub record Fits (w : ℕ) (s : Store) : Type 0 where
-  pub count : s .count < 256 ^ 8
-  pub grouped : s .grouped < 256 ^ 8
-  pub many : length (s .groups) ≡ 64
-  pub sets : (i : ℕ) → getD (s .groups) i 0 < 256 ^ 8
-  pub each : length (s .shares) ≡ 512
-  pub shares : (i : ℕ) → getD (s .shares) i 0 < 256 ^ w
 
 abbrev bit : Bool → ℕ
 bit b = cond b 1 0
@@ -78,7 +69,7 @@ length-store w s h k =
     )
     (omega arith)
 
-module _ (w : ℕ) (s : Store) (f : Fits w s) where
+module _ (w : ℕ) (s : Store) (f : StoreFits w s) where
   abbrev gs : List ℕ
   gs = flatMap (le 8) (s .groups)
 
@@ -128,10 +119,6 @@ module _ (w : ℕ) (s : Store) (f : Fits w s) where
 
 pub length-place : (w : ℕ) (x : Site) → length (placeBytes w x) ≡ placeSize w
 length-place w x = rw (length-append, length-append, length-le 1, length-le 1, length-le w) (omega arith)
-
--- the figures of a site have the widths of its bytes
-abbrev pub SiteFits : ℕ → Site → Type 0
-SiteFits w x = (x .first < 256 ^ 1) × (x .second < 256 ^ 1) × (x .litres < 256 ^ w)
 
 pub place-back : (w : ℕ) (x : Site) → SiteFits w x → placeIn w (placeBytes w x) ≡ x
 place-back w x (f, g, h) =
@@ -327,7 +314,7 @@ regroup w s e = rw e (simp append-assoc)
 pub all-over : (p d : List ℕ) → length p ≡ length d → onto p d ≡ p
 all-over p d h = rw (drop-of-length-le d {i = length p} (omega arith)) (append-nil p)
 
-pub store-put : (w : ℕ) (s : Store) → length (s .groups) ≡ 64 → length (s .shares) ≡ 512 → (((i : ℕ) → getD (s .shares) i 0 < 256 ^ w) → Fits w s)
+pub store-put : (w : ℕ) (s : Store) → length (s .groups) ≡ 64 → length (s .shares) ≡ 512 → (((i : ℕ) → getD (s .shares) i 0 < 256 ^ w) → StoreFits w s)
     → {d out : List ℕ} {b k : ℕ} → length d ≡ storeSize w → b ≡ cond (s .held) 1 0
     → Front ((((([] ++ le 8 (s .count)) ++ le 8 b) ++ le 8 (s .grouped)) ++ flatMap (le 8) (s .groups)) ++ flatMap (le w) (s .shares)) d out k
     → PutStore w s out

@@ -13,7 +13,7 @@ use Rattle.density.specs.declared.Site.{Site}
 use Rattle.density.specs.Network.{noSite}
 use Rattle.density.proofs.Site as T
 use Rattle.density.proofs.Site.Laws as T′
-use Rattle.layout.proofs.RoundTrip.{SiteFits}
+use Rattle.layout.specs.Layout.{SiteFits}
 
 -- sites whose litres have the width
 sites-each : (w : ℕ) (l : List Site) (us : List Val) → shadow (each Site (T.the-row .own) l us) → (n : ℕ) → ((i : ℕ) → i < n → getD l i noSite .litres < 256 ^ w)

@@ -27,6 +27,15 @@ storeBytes w s =
     ++ (flatMap (le 8) (s .groups)
     ++ flatMap (le w) (s .shares))))
 
+-- the figures of a store have the widths of its bytes
+pub record StoreFits (w : ℕ) (s : Store) : Type 0 where
+  pub count : s .count < 256 ^ 8
+  pub grouped : s .grouped < 256 ^ 8
+  pub many : length (s .groups) ≡ 64
+  pub sets : (i : ℕ) → getD (s .groups) i 0 < 256 ^ 8
+  pub each : length (s .shares) ≡ 512
+  pub shares : (i : ℕ) → getD (s .shares) i 0 < 256 ^ w
+
 -- the n numbers of w bytes each from a place of s on
 abbrev pub numbers : ℕ → ℕ → ℕ → List ℕ → List ℕ
 numbers w n at s = map value (records w n (drop at s))
@@ -60,6 +69,10 @@ placeBytes w x = le 1 (x .first) ++ (le 1 (x .second) ++ le w (x .litres))
 
 abbrev pub placeIn : ℕ → List ℕ → Site
 placeIn w r = record { first = field r 0 1; second = field r 1 1; litres = field r 2 w }
+
+-- the figures of a site have the widths of its bytes
+abbrev pub SiteFits : ℕ → Site → Type 0
+SiteFits w x = (x .first < 256 ^ 1) × (x .second < 256 ^ 1) × (x .litres < 256 ^ w)
 
 -- the site of a place whose bytes are this number
 abbrev pub siteOfNumber : ℕ → Site

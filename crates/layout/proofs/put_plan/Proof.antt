@@ -11,8 +11,8 @@ use Rattle.records.specs.Bytes.{le}
 use Rattle.records.specs.Write.{onto}
 use Rattle.records.proofs.Bytes.{length-le}
 use Rattle.records.proofs.Buffers.{Front, front-none, front-next, front-lent, length-flat}
-use Rattle.layout.specs.Layout.{PutStore}
-use Rattle.layout.proofs.RoundTrip.{Fits, store-put}
+use Rattle.layout.specs.Layout.{StoreFits, PutStore}
+use Rattle.layout.proofs.RoundTrip.{store-put}
 use borrow.Author.Needs.{needs}
 use Rattle.layout.proofs.put_plan.Statement.{statement}
 use Rattle.layout.proofs.put_plan.Tie as tie
@@ -54,7 +54,7 @@ front d =
     let f₃ = front-next (le 8 (a .grouped)) (length-le 8 (a .grouped)) f₂ (third d .number-at3 .ensures) in
     front-lent (flatMap (le 8) (a .groups .now)) (length-flat (le 8) 8 (length-le 8) (a .groups .now) ∙ ap (λ (k : ℕ). 8 * k) (s .pre .1)) f₃ (d .before .before .put-numbers .ensures)
 
-fits : (d : tie.After-slice-known5) → ((i : ℕ) → getD (store d .shares) i 0 < 256 ^ start d .args .w) → Fits (start d .args .w) (store d)
+fits : (d : tie.After-slice-known5) → ((i : ℕ) → getD (store d .shares) i 0 < 256 ^ start d .args .w) → StoreFits (start d .args .w) (store d)
 fits d f =
     let s = start d in
     let k = first d .before .before .before in
