@@ -5,10 +5,14 @@
  * bytes may stand anywhere: no alignment is asked of them. What a function writes must not overlap
  * anything else that it is given. The functions keep nothing between calls and allocate nothing; they call
  * memcpy and memset and no other function. They may be called from several threads at once. On one desk only
- * questions may (share, depot, difference, written, at_least): a load, a change or an added site that succeeds
- * writes store and table, a proposal that succeeds the store. What a function takes as const it has no right to
- * write: the proved function has it as a slice that is only read (&[u8]). A refused call leaves every byte as
- * it was; tests/c/read_only_t.c asks questions and has calls refused on pages that cannot be written.
+ * questions (share, depot, difference, written, at_least) and list may: a load, a change or an added site that
+ * succeeds writes store and table, a proposal that succeeds the store. What a function takes as const it has no
+ * right to write: the proved function has it as a slice that is only read (&[u8]). A refused call leaves every
+ * byte as it was; tests/c/read_only_t.c asks questions, has the list written out and calls refused on pages that
+ * cannot be written.
+ *
+ * A function that writes a list or a plan (make, written, list) writes it to the front of the buffer, answers the
+ * length that it wrote, and leaves the bytes behind it as they were.
  *
  * A refusal is the negated number of the first row that applies (README.md, "What a refusal means"), and
  * SULGHETI_CORRUPT for row 0. SULGHETI_NO_STORE is no row: the store's length is that of no store. Where a
@@ -48,7 +52,7 @@
 #define SULGHETI_PLACE_BYTES 4
 
 /* The stack in bytes that suffices for sulgheti_check, for sulgheti_make, for sulgheti_fresh, for a question
- * (share, depot, difference, written, at_least), and for any other call of the desk (load, change, add,
+ * (share, depot, difference, written, at_least) and for list, and for any other call of the desk (load, change, add,
  * propose). Measured at 512 sites and rounded up; the frames have fixed sizes, and nothing recurses. Under lazy
  * binding the program's first call of memcpy or memset may take more, since the dynamic linker looks the function
  * up on the same stack: some 3 KB where it was measured. The stated figures have room for that, 8,000 bytes or more.
@@ -132,6 +136,13 @@ int64_t sulgheti_written(const uint8_t *store, size_t store_len, const uint8_t *
  * set. */
 int64_t sulgheti_at_least(const uint8_t *store, size_t store_len, const uint8_t *table, size_t table_len,
                           uint32_t litres, uint64_t *depots);
+
+/* The list held is written to the front of buffer, whose other bytes are unchanged: its length, 4 + 6 x sites, or
+ * rows 0, 20. No plan need be held. SULGHETI_LIST_MAX bytes always suffice. What is written, sulgheti_load takes
+ * wherever the table has a place for each site, and the list held is then the same. A list that was loaded is
+ * written out, until it is changed or added to, as the bytes that it was loaded from. */
+int64_t sulgheti_list(const uint8_t *store, size_t store_len, const uint8_t *table, size_t table_len,
+                      uint8_t *buffer, size_t buffer_len);
 
 #ifdef __cplusplus
 }

@@ -1,5 +1,5 @@
 #!/usr/bin/env bash
-# Tests of tools/list.sh and the program `plan`: the lists of samples/ give the plans of tests/plans/, and what cannot be used is refused
+# Tests of tools/list.sh and the program `plan`: the lists of samples/ give the plans of tests/plans/, also out of a desk's list in a file, and what cannot be used is refused
 # in words, with nothing on standard output and status 1 from list.sh.
 # Needs target/bin/plan and target/bin/console, which `rt check plan console` builds.
 set -euo pipefail
@@ -25,6 +25,17 @@ for text in samples/*.txt; do
     read -r _ length bytes < <(echo "make $list 3717" | target/bin/console)
     [ "$(echo "check $list ${bytes:0:2*length}" | target/bin/console)" = passes ] || fail "$text: its plan does not pass"
 done
+
+# a desk's list in a file, as README has it: changed, with a site more, written out and read by `plan`; unchanged it is the file that was loaded
+tools/list.sh samples/coast.txt >"$work/list"
+list=$(hex <"$work/list")
+written_out() {
+    read -r _ length bytes < <(printf '%s\n' "load $list" "$@" 'list 3076' | target/bin/console | tail -n 1)
+    printf '%b' "$(sed 's/../\\x&/g' <<<"${bytes:0:2*length}")"
+}
+written_out | cmp - "$work/list" || fail "the list written out is not the one loaded"
+[ "$(written_out 'change 0 900' 'add 8 8 60' | target/bin/plan | head -n 2)" = "16 sites, 8 depots, 4 groups
+group 1: depots 1 2 3 carry 2655 litres, 885 each" ] || fail "the list written out is not the desk's"
 
 # the records that document 01 gives
 tools/list.sh <samples/two.txt | cmp - crates/depots/stdin || fail "two.txt: not the sample of depots"

@@ -52,7 +52,7 @@ for name in check_t desk_t read_only_t stack_t; do
     "${CC:-cc}" -std=c99 -Wall -Wextra -Werror -O2 -pthread -Wl,-z,now -Iinclude "tests/c/$name.c" "$SULGHETI_LIB/libengine.a" "$SULGHETI_LIB/libdesk.a" -o "target/$name"
     "target/$name" || { echo "$name: failed, status $?"; exit 1; }
 done
-echo "check_t, desk_t, read_only_t, stack_t: from C, T's plan passes and is held, questions are asked in memory that cannot be written, a store of another length is not read, every call runs on the stated stack"
+echo "check_t, desk_t, read_only_t, stack_t: from C, T's plan passes and is held, a list is written out and loaded again, questions are asked and the list is written out in memory that cannot be written, a store of another length is not read, every call runs on the stated stack"
 
 # the wrapper's example and words, then the cases
 export CARGO_TARGET_DIR=$PWD/target/cargo

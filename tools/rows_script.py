@@ -1,12 +1,12 @@
 #!/usr/bin/env python3
-"""Writes the console's script of calls and the answers that it must print, from document 01 and request a of document 02 alone.
+"""Writes the console's script of calls and the answers that it must print, from document 01 and requests a and b of document 02 alone.
 
   rows_script.py DIR           writes DIR/stdin and DIR/stdout
   rows_script.py DIR PROGRAM   the same, with the answers of the part `make` taken from the program, and shows which of them differ from what is written here
 
 Lists and plans are written here, plans are made here (by counting over all sets, for lists of few depots), and each is held to the definition here before it is used; no code of the engine is called.
 The answer of a check is the row that the case is written for. It is compared with a plain reading of the table (`first_row`), and a difference stops the script.
-The answers of the desk's calls are those of `Book`, document 01's plain book with the question of request a: whether a proposal is true is counted over all sets, and held to the rows.
+The answers of the desk's calls are those of `Book`, document 01's plain book with the question of request a and the writer of request b: whether a proposal is true is counted over all sets, and held to the rows.
 """
 import subprocess
 import sys
@@ -315,6 +315,13 @@ class Book:
         if length < len(self.plan):
             return "refused 20 " + text(whole)
         return f"length {len(self.plan)} " + text(self.plan + whole[len(self.plan):])
+
+    def list(self, length):
+        """Document 02, b: \"the book gives row 20, or its list and the length, and stays as it is\". Row 17 never applies."""
+        whole, record = b"\xA5" * length, make_list(self.sites)
+        if length < len(record):
+            return "refused 20 " + text(whole)
+        return f"length {len(record)} " + text(record + whole[len(record):])
 
 
 # ---- the script
@@ -702,7 +709,7 @@ def marks():
 
 
 def ask_all(depots):
-    """Every question: each site, each depot, each pair, marks, the plan written out."""
+    """Every call that only reads: each site, each depot, each pair, marks, the plan and the list written out."""
     for i in range(len(book.sites) + 1):
         ask("share", i)
     for a in range(depots):
@@ -712,10 +719,12 @@ def ask_all(depots):
     for mark in marks():
         ask("atleast", mark)
     ask("written", 5 + 10 * depots + 6 * len(book.sites))
+    ask("list", 4 + 6 * len(book.sites))
 
 
 def part_desk_examples():
     say("The desk. Before any `table` it is fresh and has 512 places. The examples of rows 17 to 20.")
+    list_out("before any list: the list without sites", bytes.fromhex("4C530000"))
     ask("share", 0, words="row 17: fresh desk, share of site 0", answer="refused 17")
     ask("depot", 0, answer="refused 17")
     ask("difference", 0, 0, answer="refused 17")
@@ -723,7 +732,10 @@ def part_desk_examples():
     ask("atleast", 2 ** 32 - 1, answer="refused 17")
     ask("written", 4, answer="refused 17 A5A5A5A5")
     ask("written", 0, answer="refused 17 -")
+    ask("load", T, answer="done")
+    list_out("T's list, no plan held", T)
     held([(0, 1, 10)], TP)
+    list_out("T's list, its plan held", T)
     ask("share", 0, answer="share 10 20")
     ask("depot", 0, answer="depot 10 2")
     ask("depot", 1, answer="depot 10 2")
@@ -753,12 +765,15 @@ def part_desk_rows():
                     (4, make_list([(64, 1, 0), (0, 1, 10, b"SU")])), (5, make_list([(0, 1, 0), (0, 64, 10)]))):
         ask("load", bs, answer=f"refused {row}")
         ask("share", 0, answer="share 10 20")
+        ask("list", 10, answer="length 10 " + text(T))
     say("Change, rows 6 and 18; add, rows 2, 5 and 6; the plan is kept.")
     for i, w, row in ((0, 0, 6), (1, 0, 6), (1, 1, 18), (2 ** 64 - 1, 65535, 18), (2 ** 64 - 1, 0, 6), (512, 1, 18)):
         ask("change", i, w, answer=f"refused {row}")
     for a, b, w, row in ((64, 0, 1, 5), (0, 64, 1, 5), (255, 255, 0, 5), (0, 1, 0, 6), (63, 63, 0, 6)):
         ask("add", a, b, w, answer=f"refused {row}")
     ask("written", 21, answer="length 21 " + text(TP))
+    ask("list", 11, answer="length 10 " + text(T) + "A5")
+    ask("list", 9, answer="refused 20 " + "A5" * 9)
     say("Propose, rows 7 to 16: the older plan is kept.")
     for row, bs in ((7, b""), (7, TP[:4]), (7, bytes.fromhex("504D010100")), (8, bytes.fromhex("504C410100")), (9, bytes.fromhex("504C010200")),
                     (10, TP + b"\0"), (10, TP[:-1]), (11, TP.replace(b"SH", b"SG")), (11, TP.replace(b"GR", b"SH")), (12, make_plan([{0}, {0, 1}], [10])),
@@ -766,6 +781,7 @@ def part_desk_rows():
                     (14, make_plan([{0, 1}], [21])), (15, make_plan([{0, 1}], [11])), (15, make_plan([{0, 1}], [9])), (16, make_plan([{0}, {1}], [0]))):
         ask("propose", bs, answer=f"refused {row}")
         ask("share", 0, answer="share 10 20")
+    ask("list", 10, answer="length 10 " + text(T))
     ask("load", make_list(FOURS), words="row 16: own sites 0 and 1 of 4, groups {0}, {1}, shares 4, 4", answer="done")
     ask("propose", make_plan([{0}, {1}], [4, 4]), answer="refused 16")
     ask("depot", 0, words="a refused proposal is not held", answer="refused 17")
@@ -784,6 +800,7 @@ def part_desk_plans():
         ask("difference", 9, 9, answer="refused 17")
         ask("atleast", 0, answer="refused 17")
         ask("written", 3, answer="refused 17 A5A5A5")
+        ask("list", 16)
         ask("propose", TP)
     say("A plan of the list before is not true of the new one; the new one's is.")
     held([(0, 1, 10)], TP)
@@ -808,6 +825,7 @@ def part_desk_plans():
     say("An empty list: its plan is held.")
     ask("load", make_list([]), answer="done")
     ask("written", 5, answer="refused 17")
+    ask("list", 5, answer="length 4 4C530000A5")
     ask("propose", make_plan([], [], group_count=1), answer="refused 10")
     ask("propose", TP, answer="refused 9")
     ask("propose", make_plan([{0}], []), answer="refused 13")
@@ -819,7 +837,10 @@ def part_desk_plans():
     ask("atleast", 2 ** 32 - 1, answer="set " + "00" * 8)
     ask("written", 4, answer="refused 20 A5A5A5A5")
     ask("written", 6, answer="length 5 504C000000A5")
+    ask("list", 4, answer="length 4 4C530000")
+    ask("list", 3, answer="refused 20 A5A5A5")
     ask("add", 63, 63, 1, answer="done")
+    ask("list", 10, answer="length 10 4C53010053543F3F0100")
     ask("written", 6, answer="refused 17")
     say("The lists with known plans, loaded and asked; then built site by site.")
     for sites in ([own(0, 7)], FOURS, FALLING, SEVEN, [own(0, 6), (0, 1, 6)], [own(0, 5), (0, 1, 6)], NINE_ONE, TRIANGLE, NINE):
@@ -837,6 +858,113 @@ def part_desk_plans():
     held([own(0, 5), (0, 1, 6), own(2, 5)], make_plan([{0, 1}, {2}], [10, 1, 5]))
     ask("difference", 1, 2, answer="difference 1 2")
     ask("difference", 2, 1, answer="difference -1 2")
+
+
+def list_out(words, record):
+    """The list that is held, written out: into a buffer of its length, one more, one less, more and less by a record, and none."""
+    n = len(record)
+    say(f"{words}: {n} bytes")
+    ask("list", n, answer=f"length {n} {text(record)}")
+    ask("list", n + 1, answer=f"length {n} {text(record)}A5")
+    ask("list", n - 1, answer="refused 20 " + "A5" * (n - 1))
+    ask("list", n + 6, answer=f"length {n} {text(record)}" + "A5" * 6)
+    if n > 4:
+        ask("list", n - 6, answer="refused 20 " + "A5" * (n - 6))
+    ask("list", 0, answer="refused 20 -")
+
+
+def again():
+    """The list that is held, written out, loaded into a fresh desk with places enough, and written out again."""
+    sites, places = book.sites, book.places
+    record = make_list(sites)
+    word, n, whole = ask("list", len(record)).split()
+    assert (word, int(n), bytes.fromhex(whole)) == ("length", len(record), record)
+    assert list_row(record) == 0 and sites_in(record) == sites
+    for more in (0, 1):
+        table(min(600, len(sites) + more))
+        ask("load", bytes.fromhex(whole), answer="done")
+        assert book.sites == sites
+        ask("list", len(record), answer=f"length {n} {whole}")
+    if sites:
+        table(len(sites) - 1)
+        ask("load", bytes.fromhex(whole), answer="refused 2")
+        ask("list", 4, answer="length 4 4C530000")
+    table(places)
+    ask("load", bytes.fromhex(whole), answer="done")
+
+
+def part_desk_lists():
+    say("The list written out. What was loaded is written out as the same bytes: the lists with known plans, with and without their plans.")
+    table(512)
+    for sites in ([], [(0, 1, 10)], [(1, 0, 10)], [own(0, 7)], FOURS, FALLING, SEVEN, NINE_ONE, TRIANGLE, NINE):
+        groups = definition(sites)
+        ask("load", make_list(sites), answer="done")
+        list_out("no plan held", make_list(sites))
+        ask("propose", make_plan(groups, shares_of(sites, groups)), answer="done")
+        list_out("a plan held", make_list(sites))
+        ask("written", len(make_plan(groups, shares_of(sites, groups))), answer="length")
+        ask("share", 0)
+    say("The order of sites and of a site's two depots, equal sites, and the ends of depots and litres are kept.")
+    ends = [(63, 0, 65535), (0, 63, 1), (0, 63, 1), own(63, 256), own(0, 255), (63, 0, 65535)]
+    record = bytes.fromhex("4C530600" "53543F00FFFF" "5354003F0100" "5354003F0100" "53543F3F0001" "53540000FF00" "53543F00FFFF")
+    assert make_list(ends) == record
+    ask("load", record, answer="done")
+    list_out("six sites", record)
+    again()
+    say("Changes and added sites: the first site, the last, litres of one and of two bytes; refused ones change nothing.")
+    ask("load", make_list(NINE_ONE), answer="done")
+    ask("change", 0, 257, answer="done")
+    ask("list", 16, answer="length 16 4C530200" "535400010101" "535401020100")
+    ask("change", 1, 65535, answer="done")
+    ask("list", 16, answer="length 16 4C530200" "535400010101" "53540102FFFF")
+    ask("change", 1, 0, answer="refused 6")
+    ask("change", 2, 9, answer="refused 18")
+    ask("add", 64, 0, 9, answer="refused 5")
+    ask("add", 0, 0, 0, answer="refused 6")
+    ask("load", make_list(FOURS)[:-1], answer="refused 3")
+    ask("propose", TP, answer="refused 9")
+    ask("list", 16, answer="length 16 4C530200" "535400010101" "53540102FFFF")
+    ask("add", 63, 5, 4660, answer="done")
+    list_out("a site added", bytes.fromhex("4C530300" "535400010101" "53540102FFFF" "53543F053412"))
+    ask("load", make_list([own(2, 3)]), words="a shorter list: nothing of the longer one is written", answer="done")
+    list_out("one site", bytes.fromhex("4C530100" "535402020300"))
+    ask("load", make_list([]), answer="done")
+    list_out("none", bytes.fromhex("4C530000"))
+    say("Rows 17 and 20: without a plan the plan written out is refused by row 17 whatever the buffer, the list by row 20 alone.")
+    ask("load", T, answer="done")
+    for length in (0, 9, 20):
+        ask("written", length, answer="refused 17")
+    for length in (0, 3, 4, 5, 9):
+        ask("list", length, answer="refused 20")
+    for length in (10, 20, 21, 8192):
+        ask("list", length, answer="length 10 " + text(T) + "A5" * (length - 10))
+    ask("propose", TP, answer="done")
+    ask("list", 20, words="row 20 of the plan and not of the list", answer="length 10 " + text(T) + "A5" * 10)
+    ask("written", 20, answer="refused 20")
+    ask("list", 9, answer="refused 20")
+    ask("written", 21, words="the plan is kept", answer="length 21 " + text(TP))
+    say("Round trips: written out, loaded, written out again; and a table with a place too few.")
+    for sites in ([], [own(63, 1)], FOURS, NINE, [own(d, 64 - d) for d in range(64)]):
+        table(100)
+        for s in sites:
+            ask("add", *s, answer="done")
+        again()
+    say("Counts of one byte and of two: 255 to 257, 511 and 512 sites.")
+    for n in (255, 256, 257, 511, 512):
+        sites = [(i % 64, i // 8, 65535 - 127 * i) for i in range(n)]
+        record = make_list(sites)
+        assert record[2:4] == number(n, 2) and len(record) == 4 + 6 * n
+        table(512)
+        ask("load", record, answer="done")
+        ask("list", len(record), answer=f"length {len(record)} {text(record)}")
+        ask("list", len(record) - 1, answer="refused 20")
+    again()
+    list_out("512 sites", record)
+    ask("add", 0, 0, 1, answer="refused 2")
+    ask("change", 511, 1, answer="done")
+    ask("list", 8192, answer=f"length 3076 {text(record[:-2])}0100" + "A5" * (8192 - 3076))
+    table(600)
+    list_out("a fresh desk again", bytes.fromhex("4C530000"))
 
 
 def at_least(mark, *depots):
@@ -909,6 +1037,7 @@ def part_desk_tables():
     say("Tables of few and of many places.")
     table(0)
     ask("atleast", 0, answer="refused 17")
+    list_out("a table of no place", bytes.fromhex("4C530000"))
     ask("load", T, answer="refused 2")
     ask("load", make_list([], count=1), words="row 2 before row 3", answer="refused 2")
     ask("add", 0, 1, 10, answer="refused 2")
@@ -919,6 +1048,7 @@ def part_desk_tables():
     at_least(0)
     at_least(1)
     ask("written", 5, answer="length 5 504C000000")
+    ask("list", 4, answer="length 4 4C530000")
     table(1)
     ask("written", 5, words="a fresh desk again", answer="refused 17")
     ask("atleast", 1, answer="refused 17")
@@ -930,14 +1060,17 @@ def part_desk_tables():
     ask("change", 0, 0, answer="refused 6")
     ask("load", make_list(FOURS), answer="refused 2")
     ask("share", 0, answer="share 10 20")
+    list_out("the one place", T)
     table(2)
     ask("load", make_list(FOURS), answer="done")
     ask("load", make_list(TRIANGLE), answer="refused 2")
     ask("load", T, words="a shorter list", answer="done")
     ask("propose", make_plan([{0, 1}], [10]), answer="done")
     ask("share", 1, answer="refused 18")
+    list_out("one of two places", T)
     ask("add", 2, 2, 3, answer="done")
     ask("add", 2, 2, 3, answer="refused 2")
+    list_out("both", bytes.fromhex("4C530200" "535400010A00" "535402020300"))
     large = make_plan([set(range(64))], [4194240] * 512)
     counted[tuple(LARGE)] = [set(range(64))]  # as document 01 has it
     for places in (512, 600):
@@ -956,8 +1089,11 @@ def part_desk_tables():
             at_least(mark)
         ask("written", 3086, answer="refused 20")
         ask("written", 3087, answer="length 3087 " + text(large))
+        ask("list", 3076, words="512 sites and their plan", answer="length 3076 " + text(make_list(LARGE)))
+        ask("list", 3075, answer="refused 20")
         ask("propose", large[:-1] + b"\1", answer="refused 14")
         ask("change", 511, 65534, answer="done")
+        ask("list", 3076, words="the last one changed", answer="length 3076 " + text(make_list(LARGE)[:-2] + b"\xFE\xFF"))
     table(511)
     ask("load", make_list(LARGE), answer="refused 2")
     ask("load", make_list([own(0, 65535)] * 510), answer="done")
@@ -982,21 +1118,26 @@ def part_desk_lines():
                  "share", "share 18446744073709551616", "share 99999999999999999999999", "share 0 0", "share A", "depot", "depot 256", "depot 300", "depot 0 1",
                  "difference", "difference 0", "difference 0 256", "difference 256 0", "difference 0 1 2", "written", "written 8193", "written -", "written 1 1", "fresh", "Load -",
                  "atleast", "atleast 4294967296", "atleast 4294967301", "atleast 18446744073709551616", "atleast 18446744073709551621", "atleast 99999999999999999999999",
-                 "atleast 5 5", "atleast -1", "atleast +5", "atleast 0x5", "atleast A", "atleast 5.0", "atleast 4,999", "atleast -", "atLeast 5", "ATLEAST 5", "at_least 5", "at least 5", "atleast5"):
+                 "atleast 5 5", "atleast -1", "atleast +5", "atleast 0x5", "atleast A", "atleast 5.0", "atleast 4,999", "atleast -", "atLeast 5", "ATLEAST 5", "at_least 5", "at least 5", "atleast5",
+                 "list", "list -1", "list 8193", "list 10 10", "LIST 4", "List 4", "list -", "list +10", "list 0xA", "list A", "list 10.0", "list 1,000", "list10", "lists 10", "list 18446744073709551616",
+                 "list 18446744073709551626", "list 99999999999999999999999", f"list {text(T)}", f"list {text(T)} 10"):
         lines.append(line)
         answers.append("bad line")
     ask("share", 0, answer="share 10 20")
     raw("zeros in front", "share 000000000000000000000000", "share 10 20")
     raw("the same", "atleast 000000000000000000000005", "set 0300000000000000")
+    raw("the same", "list 000000000000000000000010", "length 10 " + text(T))
     raw("the largest mark, with zeros in front", "atleast 00000000004294967295", "set 0000000000000000")
     raw("spaces around a mark", "  atleast   6 ", "set 0000000000000000")
     raw("the largest site number", f"change {2 ** 64 - 1} 1", "refused 18")
     raw("spaces", f"  written   21  ", "length 21 " + text(TP))
+    raw("spaces", "  list   10  ", "length 10 " + text(T))
     long = "propose " + text(TP)
     raw("a line of 16,384 bytes", long + " " * (16384 - len(long)), "done")
     bad("a line of 16,385 bytes", long + " " * (16385 - len(long)))
     ask("propose", b"PL" + b"\0" * 8186, words="8,188 bytes", answer="refused 9")
     ask("written", 8192, words="the largest buffer", answer="length 21")
+    ask("list", 8192, answer="length 10 " + text(T) + "A5" * 8182)
     table(512)
 
 
@@ -1042,7 +1183,7 @@ def part_histories():
         table((3, 5, 8, 512, 600)[draw(5)])
         plans = [make_plan([], [])]
         for _ in range(30 + draw(31)):
-            kind, n = draw(22), len(book.sites)
+            kind, n = draw(24), len(book.sites)
             if kind < 1:
                 ask("load", make_list([(draw(depots), draw(depots), 1 + draw(most)) for _ in range(draw(6))]))
             elif kind < 2:
@@ -1068,6 +1209,8 @@ def part_histories():
                 ask("difference", draw(depots), draw(depots))
             elif kind < 20:
                 ask("written", draw(2) * 60 + draw(60))
+            elif kind < 22:
+                ask("list", (0, 4 + 6 * n + draw(3) - 1, 4 + 6 * n, draw(60))[draw(4)])
             else:
                 near = marks()
                 ask("atleast", near[draw(len(near))] if draw(8) else draw(2) * 65536 + draw(most + 1))
@@ -1075,6 +1218,7 @@ def part_histories():
             groups = definition(book.sites)
             ask("propose", make_plan(groups, turned(book.sites, groups)), answer="done")
         ask_all(depots)
+        again()
     assert done >= 100, done
 
 
@@ -1135,6 +1279,7 @@ def main():
     part_desk_rows()
     part_desk_plans()
     part_desk_marks()
+    part_desk_lists()
     part_desk_tables()
     part_desk_lines()
     part_histories()

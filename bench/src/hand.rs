@@ -1,7 +1,7 @@
 //! Check and Make written by hand in plain Rust, for comparison: nothing is proved of them.
 
-const LIST: u16 = u16::from_le_bytes(*b"LS");
-const SITE: u16 = u16::from_le_bytes(*b"ST");
+pub(crate) const LIST: u16 = u16::from_le_bytes(*b"LS");
+pub(crate) const SITE: u16 = u16::from_le_bytes(*b"ST");
 pub(crate) const PLAN: u16 = u16::from_le_bytes(*b"PL");
 pub(crate) const GROUP: u16 = u16::from_le_bytes(*b"GR");
 pub(crate) const SHARE: u16 = u16::from_le_bytes(*b"SH");

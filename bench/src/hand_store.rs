@@ -1,7 +1,7 @@
 //! The desk's calls written by hand in plain Rust over the same bytes, for comparison: nothing is proved of
 //! them. Layouts and answers are those of `include/sulgheti.h`.
 
-use crate::hand::{half, plan_refusal, read, GROUP, PLAN, SHARE};
+use crate::hand::{half, plan_refusal, read, GROUP, LIST, PLAN, SHARE, SITE};
 
 /// Row 0.
 const CORRUPT: i64 = -256;
@@ -330,6 +330,27 @@ fn try_written(store: &[u8], table: &[u8], buffer: &mut [u8]) -> Result<i64, i64
     for (r, share) in rest.chunks_exact_mut(6).zip(plan.shares) {
         r[..2].copy_from_slice(&SHARE.to_le_bytes());
         r[2..].copy_from_slice(share);
+    }
+    Ok(length as i64)
+}
+
+#[inline(never)]
+pub fn list(store: &[u8], table: &[u8], buffer: &mut [u8]) -> i64 {
+    code(try_list(store, table, buffer))
+}
+
+fn try_list(store: &[u8], table: &[u8], buffer: &mut [u8]) -> Result<i64, i64> {
+    let held = held(sized(store)?, table)?;
+    let length = 4 + 6 * held.sites.len();
+    if buffer.len() < length {
+        return Err(-20);
+    }
+    let (head, rest) = buffer.split_at_mut(4);
+    head[..2].copy_from_slice(&LIST.to_le_bytes());
+    head[2..].copy_from_slice(&(held.sites.len() as u16).to_le_bytes());
+    for (r, site) in rest.chunks_exact_mut(6).zip(held.sites) {
+        r[..2].copy_from_slice(&SITE.to_le_bytes());
+        r[2..].copy_from_slice(site);
     }
     Ok(length as i64)
 }

@@ -7,7 +7,7 @@ use engine_tests::damage::{reordered, spoil, Base};
 use engine_tests::families::{scattered, Extent, FAMILIES};
 use engine_tests::records::{list_bytes, listed, members, plan_bytes, Plan, Site};
 use engine_tests::rng::Rng;
-use sulgheti::{ffi, PLAN_MAX, STORE_BYTES};
+use sulgheti::{ffi, LIST_MAX, PLAN_MAX, STORE_BYTES};
 
 use crate::{hand, hand_store, Input, BATCH};
 
@@ -37,6 +37,7 @@ enum Call {
     Difference(u8, u8),
     Written(usize),
     AtLeast(u32),
+    List(usize),
 }
 
 /// What a call writes beside store and table.
@@ -76,6 +77,10 @@ fn by_engine(call: &Call, desk: &mut Desk, out: &mut Out) -> i64 {
                 ffi::sulgheti_written(store, n, table, m, buffer.as_mut_ptr(), buffer.len())
             }
             Call::AtLeast(mark) => ffi::sulgheti_at_least(store, n, table, m, *mark, one),
+            Call::List(length) => {
+                let buffer = &mut out.buffer[..*length];
+                ffi::sulgheti_list(store, n, table, m, buffer.as_mut_ptr(), buffer.len())
+            }
         }
     }
 }
@@ -94,6 +99,7 @@ fn by_hand(call: &Call, desk: &mut Desk, out: &mut Out) -> i64 {
         Call::Difference(a, b) => hand_store::difference(store, table, *a, *b, &mut out.difference, one),
         Call::Written(length) => hand_store::written(store, table, &mut out.buffer[..*length]),
         Call::AtLeast(mark) => hand_store::at_least(store, table, *mark, one),
+        Call::List(length) => hand_store::list(store, table, &mut out.buffer[..*length]),
     }
 }
 
@@ -174,6 +180,8 @@ fn lines(input: &Input) -> Vec<Line> {
         line("difference", &full, true, &|i| Call::Difference(depot(i), depot(DESKS - 1 - i))),
         line("written", &full, true, &|_| Call::Written(PLAN_MAX)),
         line("at_least", &full, true, &|i| Call::AtLeast(mark(i))),
+        line("list, a plan held", &full, true, &|_| Call::List(LIST_MAX)),
+        line("list, none held", &planless, true, &|_| Call::List(LIST_MAX)),
     ]
 }
 
@@ -372,7 +380,7 @@ fn random_call(rng: &mut Rng, base: &Base) -> Call {
         *rng.pick(&[w / q, w.div_ceil(q), (w / q).saturating_sub(1), w / q + 1, 65_536 + w / q])
     };
     let (mut list, mut plan) = (list_bytes(&base.sites), plan_bytes(&base.plan));
-    match rng.below(14) {
+    match rng.below(15) {
         0 if rng.percent(20) => Call::Fresh,
         0 | 1 => {
             if rng.percent(70) {
@@ -403,6 +411,7 @@ fn random_call(rng: &mut Rng, base: &Base) -> Call {
         8 => Call::Depot(depot(rng)),
         9 | 10 => Call::Difference(depot(rng), depot(rng)),
         11 | 12 => Call::AtLeast(mark(rng)),
+        13 => Call::List((list.len() + rng.below(4)).saturating_sub(2)),
         _ => Call::Written((plan.len() + rng.below(4)).saturating_sub(2).min(PLAN_MAX)),
     }
 }

@@ -21,6 +21,11 @@
 //! // Who brings at least 5 litres, and who 6: bit n of the set stands for depot n.
 //! assert_eq!(desk.at_least(5), Ok(0b11));
 //! assert_eq!(desk.at_least(6), Ok(0));
+//! // The list written out is the list that was loaded; a buffer one byte shorter is refused.
+//! let mut file = [0; sulgheti::LIST_MAX];
+//! let length = desk.list(&mut file).unwrap();
+//! assert_eq!(file[..length], list);
+//! assert_eq!(desk.list(&mut file[..length - 1]), Err(sulgheti::Row(20)));
 //! // Questions change nothing: threads may ask one desk at once.
 //! std::thread::scope(|threads| {
 //!     threads.spawn(|| assert_eq!(desk.share(0), Ok((10, 20))));
@@ -36,10 +41,11 @@
 
 use std::fmt;
 
-/// The longest list in bytes: 512 sites.
+/// The longest list in bytes: 512 sites. A buffer of this length is never too short for the list held.
 pub const LIST_MAX: usize = 4 + 6 * 512;
 
-/// The longest plan in bytes: 64 groups and 512 sites. A buffer of this length is never too short.
+/// The longest plan in bytes: 64 groups and 512 sites. A buffer of this length is never too short for a plan, nor for a
+/// list.
 pub const PLAN_MAX: usize = 5 + 10 * 64 + 6 * 512;
 
 /// The bytes of a desk's store.
@@ -137,6 +143,14 @@ pub mod ffi {
             litres: u32,
             depots: *mut u64,
         ) -> i64;
+        pub fn sulgheti_list(
+            store: *const u8,
+            store_len: usize,
+            table: *const u8,
+            table_len: usize,
+            buffer: *mut u8,
+            buffer_len: usize,
+        ) -> i64;
     }
 }
 
@@ -158,7 +172,8 @@ pub fn make(list: &[u8], out: &mut [u8]) -> Result<usize, Row> {
 /// A desk: a store and a table of places for sites, both in bytes that it owns.
 ///
 /// A refused call changes nothing. Row 0 is answered only by a desk made of foreign bytes.
-/// Questions, [`written`](Desk::written) among them, take `&self`: the engine only reads store and table.
+/// Questions, [`written`](Desk::written) among them, and [`list`](Desk::list) take `&self`: the engine only reads
+/// store and table.
 #[derive(Clone, Debug, PartialEq, Eq)]
 pub struct Desk {
     store: [u8; STORE_BYTES],
@@ -269,6 +284,29 @@ impl Desk {
         taken(unsafe { ffi::sulgheti_at_least(store, n, table, m, litres, &mut depots) })?;
         Ok(depots)
     }
+
+    /// The list held is written to the front of `buffer`; answers its length. No plan need be held. Refused by rows 0
+    /// and 20.
+    ///
+    /// ```
+    /// let mut desk = sulgheti::Desk::new(2);
+    /// desk.add(0, 1, 9).unwrap();
+    /// desk.add(1, 2, 1).unwrap();
+    /// let mut list = [0xA5; 17];
+    /// assert_eq!(desk.list(&mut list), Ok(16));
+    /// assert_eq!(list, *b"LS\x02\x00ST\x00\x01\x09\x00ST\x01\x02\x01\x00\xA5");
+    /// assert_eq!(desk.list(&mut list[..15]), Err(sulgheti::Row(20)));
+    ///
+    /// // Another desk loads what was written, and holds the same list.
+    /// let mut other = sulgheti::Desk::new(2);
+    /// other.load(&list[..16]).unwrap();
+    /// assert_eq!(other, desk);
+    /// ```
+    pub fn list(&self, buffer: &mut [u8]) -> Result<usize, Row> {
+        let (store, n, table, m) = self.parts();
+        // SAFETY: as above.
+        taken(unsafe { ffi::sulgheti_list(store, n, table, m, buffer.as_mut_ptr(), buffer.len()) })
+    }
 }
 
 /// An answer taken apart: a figure, or the refusing row below zero.
@@ -308,7 +346,7 @@ const TEXTS: [(&str, &str); 21] = [
     ("no plan is held", "propose a plan that passes first; a load, a change or an added site drops the plan held"),
     ("the site number is not on the desk", "sites are counted from 0: load or add the site first"),
     ("no site names the depot", "ask for a listed depot"),
-    ("the buffer is shorter than the plan", "lend 5 + 10 x groups + 6 x sites bytes; 3,717 always suffice"),
+    ("the buffer is shorter than the plan, or than the list that is written out", "lend 5 + 10 x groups + 6 x sites bytes for a plan, 4 + 6 x sites for a list; 3,717 always suffice"),
 ];
 
 impl Row {

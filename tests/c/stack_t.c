@@ -39,8 +39,9 @@ static int64_t depot(void) { return sulgheti_depot(DESK, first, &x, &y); }
 static int64_t difference(void) { return sulgheti_difference(DESK, first, second, &d, &y); }
 static int64_t written(void) { return sulgheti_written(DESK, out, out_len); }
 static int64_t at_least(void) { return sulgheti_at_least(DESK, mark, &x); }
+static int64_t list_out(void) { return sulgheti_list(DESK, out, out_len); }
 
-enum { CHECK, MAKE, FRESH, LOAD, CHANGE, ADD, PROPOSE, SHARE, DEPOT, DIFFERENCE, WRITTEN, AT_LEAST, CALLS };
+enum { CHECK, MAKE, FRESH, LOAD, CHANGE, ADD, PROPOSE, SHARE, DEPOT, DIFFERENCE, WRITTEN, AT_LEAST, LIST, CALLS };
 static struct {
     const char *name;
     int64_t (*call)(void);
@@ -50,7 +51,7 @@ static struct {
     {"load", load, SULGHETI_STACK_DESK, 0}, {"change", change, SULGHETI_STACK_DESK, 0}, {"add", add, SULGHETI_STACK_DESK, 0},
     {"propose", propose, SULGHETI_STACK_DESK, 0}, {"share", share, SULGHETI_STACK_QUESTION, 0}, {"depot", depot, SULGHETI_STACK_QUESTION, 0},
     {"difference", difference, SULGHETI_STACK_QUESTION, 0}, {"written", written, SULGHETI_STACK_QUESTION, 0},
-    {"at_least", at_least, SULGHETI_STACK_QUESTION, 0},
+    {"at_least", at_least, SULGHETI_STACK_QUESTION, 0}, {"list", list_out, SULGHETI_STACK_QUESTION, 0},
 };
 
 /* Pages that cannot be touched, and above them a stack with room for a stated figure and for what a thread needs itself. */
@@ -141,8 +142,22 @@ static void desk_refused(int code) {
     for (int call = CHANGE; call < CALLS; call++) EXPECT(call, code);
 }
 
+/* The questions that need a plan; the list is written out without one. */
 static void questions_refused(int row) {
-    for (int call = SHARE; call < CALLS; call++) EXPECT(call, -row);
+    for (int call = SHARE; call < LIST; call++) EXPECT(call, -row);
+}
+
+static void listed(void) {
+    memset(out, 0, SULGHETI_PLAN_MAX);
+    EXPECT(LIST, (int64_t)list_len);
+    if (memcmp(out, list, list_len) != 0) exit(5);
+    out_len = list_len;
+    EXPECT(LIST, (int64_t)list_len);
+    out_len = list_len - 1;
+    EXPECT(LIST, -20);
+    out_len = 0;
+    EXPECT(LIST, -20);
+    out_len = SULGHETI_PLAN_MAX;
 }
 
 int main(void) {
@@ -160,8 +175,10 @@ int main(void) {
         memcpy(plan, out, plan_len = (size_t)answer);
         EXPECT(CHECK, 0);
         EXPECT(FRESH, 0);
+        EXPECT(LIST, 4);
         EXPECT(LOAD, 0);
         questions_refused(17);
+        listed();
         EXPECT(PROPOSE, 0);
         for (first = 0; first < 64; first++) {
             site = 8 * first + 7u;
@@ -178,6 +195,7 @@ int main(void) {
         memset(out, 0, SULGHETI_PLAN_MAX);
         EXPECT(WRITTEN, (int64_t)plan_len);
         if (memcmp(out, plan, plan_len) != 0) return 4;
+        listed();
 
         /* each row of the list */
         damaged(list, 0, lists_refused, 1);
@@ -246,6 +264,8 @@ int main(void) {
         EXPECT(ADD, -6);
         litres = 65535;
         EXPECT(ADD, 0);
+        EXPECT(LIST, 4 + 6 * 512);
+        if (memcmp(out + 4, list + 4, list_len - 4) != 0 || memcmp(out + list_len, "ST\77\0\377\377", 6) != 0) return 6;
     }
 
     /* row 16: depots 0 and the others in two groups, as heavy as each other */

@@ -1,8 +1,9 @@
 //! The plain book of document 01: a list, a plan or none, and the rows in the paper's order; before them the
-//! store's length, which is no row. With document 02's question a, the depots at or over a mark.
+//! store's length, which is no row. With document 02's question a, the depots at or over a mark, and its call b, the
+//! list written out.
 
 use crate::decompose::by_cuts;
-use crate::records::{listed, plan_bytes, Plan, Site};
+use crate::records::{list_bytes, listed, plan_bytes, Plan, Site};
 use crate::reference::{self, Depots};
 
 /// A desk call, with what it is given beside the desk and the table.
@@ -19,10 +20,12 @@ pub enum Call {
     Written(usize),
     /// The mark in litres.
     AtLeast(u32),
+    /// The bytes of the buffer.
+    List(usize),
 }
 
 impl Call {
-    /// The call's place among the nine.
+    /// The call's place among the ten.
     pub fn kind(&self) -> usize {
         match self {
             Call::Load(_) => 0,
@@ -34,6 +37,15 @@ impl Call {
             Call::Difference(..) => 6,
             Call::Written(_) => 7,
             Call::AtLeast(_) => 8,
+            Call::List(_) => 9,
+        }
+    }
+
+    /// The bytes of the buffer that the call is lent to write into, where it is lent one.
+    pub fn room(&self) -> Option<usize> {
+        match *self {
+            Call::Written(room) | Call::List(room) => Some(room),
+            _ => None,
         }
     }
 }
@@ -219,6 +231,14 @@ impl Book {
             &Call::AtLeast(mark) => {
                 self.plan.as_ref().ok_or(17)?;
                 Ok(Told::Depots(if self.by_held { self.read_to(mark) } else { self.at_least(mark) }))
+            }
+            // "the book gives row 20, or its list and the length, and stays as it is"
+            &Call::List(room) => {
+                let bytes = list_bytes(&self.list);
+                if room < bytes.len() {
+                    return Err(20);
+                }
+                Ok(Told::Wrote(bytes))
             }
         }
     }

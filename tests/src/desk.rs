@@ -8,12 +8,12 @@ use crate::near::{miss, next_season};
 use crate::records::{list_bytes, plan_bytes, Plan, Site};
 use crate::run::Run;
 
-/// How often each of the nine calls got each row; place 21 is success, place 22 no store.
-pub type Seen = [[usize; 23]; 9];
+/// How often each of the ten calls got each row; place 21 is success, place 22 no store.
+pub type Seen = [[usize; 23]; 10];
 
 /// The rows that each call can answer, 21 for success; row 0 only where the bytes are foreign. No store, 22, where
 /// they are of another number.
-const ROWS: [&[usize]; 9] = [
+const ROWS: [&[usize]; 10] = [
     &[1, 2, 3, 4, 5, 6, 21, 22],
     &[0, 6, 18, 21, 22],
     &[0, 2, 5, 6, 21, 22],
@@ -23,6 +23,7 @@ const ROWS: [&[usize]; 9] = [
     &[0, 17, 19, 21, 22],
     &[0, 17, 20, 21, 22],
     &[0, 17, 21, 22],
+    &[0, 20, 21, 22],
 ];
 
 /// Lengths of no store, around that of a store and of its parts; and 4,632, as of shares of 8 bytes each.
@@ -85,7 +86,7 @@ fn call(run: &mut Run, desk: &mut Bytes, book: &mut Result<Book, Refusal>, call:
         Call::Load(bytes) | Call::Propose(bytes) => bytes,
         _ => &[],
     };
-    let room = if let Call::Written(room) = call { *room } else { run.rng.below(3) };
+    let room = call.room().unwrap_or_else(|| run.rng.below(3));
     let content: Vec<u8> = (0..room).map(|_| run.rng.byte()).collect();
     let old = Reply { code: 0, first: run.rng.word(), second: run.rng.word(), difference: run.rng.word() as i64 };
     let mut store = Lent::new(&mut run.rng, &desk.store, &[]);
@@ -149,6 +150,7 @@ fn wrapped(
         &Call::Difference(a, b) => desk.difference(a, b).map(|(d, q)| Told::Difference(d, q)),
         Call::Written(_) => desk.written(&mut buffer).map(|n| Told::Wrote(buffer[..n].to_vec())),
         &Call::AtLeast(mark) => desk.at_least(mark).map(Told::Depots),
+        Call::List(_) => desk.list(&mut buffer).map(|n| Told::Wrote(buffer[..n].to_vec())),
     };
     let (store, table) = desk.bytes();
     let kept = store[..] == after.store && table == after.table && buffer == out;
@@ -247,14 +249,21 @@ fn any_call(run: &mut Run, book: &Book, old: &mut Vec<u8>, most: usize, depots: 
         55..=64 => Call::Share(if run.rng.percent(3) { run.rng.word() as usize } else { run.rng.below(near) }),
         65..=72 => Call::Depot(depot(run)),
         73..=81 => Call::Difference(depot(run), depot(run)),
-        82..=90 => Call::AtLeast(mark(run, book)),
+        82..=88 => Call::AtLeast(mark(run, book)),
+        89..=94 => Call::List(near_length(run, 4 + 6 * n)),
         _ => {
             let length = book.plan.as_ref().map_or(5, |plan: &Plan| plan_bytes(plan).len());
-            Call::Written(
-                length.saturating_sub(run.rng.below(3)) + if run.rng.percent(60) { run.rng.below(4) } else { 0 },
-            )
+            Call::Written(near_length(run, length))
         }
     }
+}
+
+/// The length of a buffer: that of what is written out, some bytes fewer or more, or none.
+fn near_length(run: &mut Run, length: usize) -> usize {
+    if run.rng.percent(4) {
+        return 0;
+    }
+    length.saturating_sub(run.rng.below(3)) + if run.rng.percent(60) { run.rng.below(4) } else { 0 }
 }
 
 /// A history: so many calls from a fresh desk and a table of any content.
@@ -334,7 +343,7 @@ fn foreign(run: &mut Run, desk: &Bytes) -> Bytes {
 
 /// Histories of desk calls, at least `calls` of them, and calls of foreign bytes.
 pub fn histories(run: &mut Run, calls: usize) -> Seen {
-    let mut seen = [[0; 23]; 9];
+    let mut seen = [[0; 23]; 10];
     let end = run.cases + calls;
     while run.cases < end {
         let (places, most, depots, calls) = match run.rng.below(100) {
@@ -344,7 +353,8 @@ pub fn histories(run: &mut Run, calls: usize) -> Seen {
             90..=97 => (run.rng.from_to(100, 600), 60, 20, 40),
             _ => (*run.rng.pick(&[511, 512, 513, 600]), 512, 64, 30),
         };
-        let (desk, _) = history(run, places, most, depots, calls, &mut seen);
+        let (desk, book) = history(run, places, most, depots, calls, &mut seen);
+        round_trip(run, &desk, &book, &mut seen);
         for _ in 0..10 {
             let mut desk = foreign(run, &desk);
             let mut book = held(&desk.store, &desk.table);
@@ -364,6 +374,7 @@ pub fn histories(run: &mut Run, calls: usize) -> Seen {
     full(run, &mut seen);
     lengths(run, &mut seen);
     marks(run, &mut seen);
+    lists(run, &mut seen);
     seen
 }
 
@@ -448,6 +459,153 @@ fn ask(run: &mut Run, desk: &mut Bytes, book: &mut Result<Book, Refusal>, asked:
     }
 }
 
+/// The list that a desk holds, written out: loaded into a fresh desk with a place for each site and maybe more, it is
+/// the same list again, and it is written out as the same bytes. A table with a place too few refuses it by row 2.
+fn round_trip(run: &mut Run, desk: &Bytes, book: &Book, seen: &mut Seen) {
+    let list = list_bytes(&book.list);
+    let mut from = desk.clone();
+    let mut known = Ok(book.clone());
+    if told(&known, &Call::List(list.len())) != Ok(Told::Wrote(list.clone())) {
+        run.fail("the book does not write its list", &[("list", &list)]);
+    }
+    call(run, &mut from, &mut known, &Call::List(list.len()), seen);
+    let sites = book.list.len();
+    let places = sites + *run.rng.pick(&[0, 0, 1, 40]);
+    let mut desk = Bytes::fresh(run, places);
+    let mut other = Ok(Book::new(places));
+    for next in [Call::Load(list.clone()), Call::List(list.len()), Call::List(list.len() + 7)] {
+        call(run, &mut desk, &mut other, &next, seen);
+    }
+    if other.as_ref().map(|other| &other.list) != Ok(&book.list) {
+        run.fail("what was written out is another list when it is loaded", &[("list", &list)]);
+    }
+    if sites > 0 {
+        let mut desk = Bytes::fresh(run, sites - 1);
+        let mut other = Ok(Book::new(sites - 1));
+        if told(&other, &Call::Load(list.clone())) != Err(Refusal::Row(2)) {
+            run.fail("a place too few for the list written out, and no row 2", &[("list", &list)]);
+        }
+        call(run, &mut desk, &mut other, &Call::Load(list), seen);
+        call(run, &mut desk, &mut other, &Call::List(4), seen);
+    }
+}
+
+/// What the book answers to a call; it stays as it is.
+fn told(book: &Result<Book, Refusal>, call: &Call) -> Result<Told, Refusal> {
+    book.clone()?.answer(call).map_err(Refusal::Row)
+}
+
+/// Lists whose bytes are worked out here, and buffers around their lengths, with and without a plan held; and desks
+/// that row 0 refuses, whatever the buffer.
+fn lists(run: &mut Run, seen: &mut Seen) {
+    let site = |first: u8, second: u8, litres: u16| Site { first, second, litres };
+    let mut cases: Vec<(Vec<Site>, Vec<u8>)> = vec![
+        (vec![], b"LS\0\0".to_vec()),
+        (vec![site(0, 1, 10)], b"LS\x01\0ST\x00\x01\x0A\0".to_vec()),
+        // the order of sites and of a site's depots, equal sites, the ends of depots and litres
+        (
+            vec![site(63, 0, 65_535), site(0, 63, 1), site(0, 63, 1), site(63, 63, 256), site(5, 5, 255)],
+            b"LS\x05\0ST\x3F\x00\xFF\xFFST\x00\x3F\x01\0ST\x00\x3F\x01\0ST\x3F\x3F\0\x01ST\x05\x05\xFF\0".to_vec(),
+        ),
+    ];
+    // counts of one byte and of two
+    for n in [255, 256, 257, 511, 512] {
+        let sites: Vec<Site> = (0..n).map(|i| site((i % 64) as u8, (i / 8) as u8, (65_535 - 127 * i) as u16)).collect();
+        let mut bytes = vec![0x4C, 0x53, (n % 256) as u8, (n / 256) as u8];
+        for s in &sites {
+            bytes.extend([0x53, 0x54, s.first, s.second, (s.litres % 256) as u8, (s.litres / 256) as u8]);
+        }
+        cases.push((sites, bytes));
+    }
+    for (sites, bytes) in cases {
+        let length = bytes.len();
+        if length != 4 + 6 * sites.len() {
+            run.fail("a list written here has another length", &[("list", &bytes)]);
+        }
+        for places in [sites.len(), sites.len() + 3] {
+            let mut desk = Bytes::fresh(run, places);
+            let mut book = Ok(Book::new(places));
+            let plan = plan_bytes(&run.plan(&sites));
+            // before any list
+            write_out(run, &mut desk, &mut book, b"LS\0\0", seen);
+            call(run, &mut desk, &mut book, &Call::Load(bytes.clone()), seen);
+            write_out(run, &mut desk, &mut book, &bytes, seen);
+            call(run, &mut desk, &mut book, &Call::Propose(plan), seen);
+            write_out(run, &mut desk, &mut book, &bytes, seen);
+            corrupted(run, &desk, length, seen);
+            // refused calls: the same list
+            call(run, &mut desk, &mut book, &Call::Load(bytes[..length - 1].to_vec()), seen);
+            call(run, &mut desk, &mut book, &Call::Change(sites.len(), 1), seen);
+            call(run, &mut desk, &mut book, &Call::Add(64, 0, 1), seen);
+            write_out(run, &mut desk, &mut book, &bytes, seen);
+            if !sites.is_empty() {
+                let mut changed = bytes.clone();
+                changed[length - 2..].copy_from_slice(&[0xCD, 0xAB]);
+                call(run, &mut desk, &mut book, &Call::Change(sites.len() - 1, 0xABCD), seen);
+                write_out(run, &mut desk, &mut book, &changed, seen);
+            }
+            let mut more = list_bytes(&book.as_ref().expect("a book").list);
+            call(run, &mut desk, &mut book, &Call::Add(62, 7, 0x1234), seen);
+            if sites.len() < places.min(512) {
+                more.extend(b"ST\x3E\x07\x34\x12");
+                more[2..4].copy_from_slice(&(sites.len() as u16 + 1).to_le_bytes());
+            }
+            write_out(run, &mut desk, &mut book, &more, seen);
+        }
+    }
+}
+
+/// The list written out into buffers of its length, one byte fewer, one more, fewer and more by a record, none, around
+/// a head, and of the longest list; `bytes` is what is to be written, by the book too.
+fn write_out(run: &mut Run, desk: &mut Bytes, book: &mut Result<Book, Refusal>, bytes: &[u8], seen: &mut Seen) {
+    let n = bytes.len();
+    for room in [n, n - 1, n + 1, n.saturating_sub(6), n + 6, n - 4, 0, 1, 3, 4, sulgheti::LIST_MAX] {
+        let wanted = if room < n { Err(Refusal::Row(20)) } else { Ok(Told::Wrote(bytes.to_vec())) };
+        let told = told(book, &Call::List(room));
+        if told != wanted {
+            run.fail(&format!("the book answers {told:?} to a list into {room} bytes"), &[("list", bytes)]);
+        }
+        call(run, desk, book, &Call::List(room), seen);
+    }
+}
+
+/// Row 0 before row 20: the count of sites, whether a plan is held, the groups, a share, a depot and litres of the
+/// table, or a table cut off; into buffers of the list's length, one byte fewer and none.
+fn corrupted(run: &mut Run, desk: &Bytes, length: usize, seen: &mut Seen) {
+    let count = (length - 4) / 6;
+    let mut desks = vec![];
+    let mut damaged = |change: &dyn Fn(&mut Bytes)| {
+        let mut other = desk.clone();
+        change(&mut other);
+        desks.push(other);
+    };
+    damaged(&|d| d.store[..8].fill(0xFF));
+    damaged(&|d| d.store[..8].copy_from_slice(&(d.table.len() as u64 / 4 + 1).to_le_bytes()));
+    damaged(&|d| d.store[4] = 1);
+    damaged(&|d| d.store[8] = 2);
+    damaged(&|d| d.store[15] = 1);
+    damaged(&|d| d.store[16] = 65);
+    damaged(&|d| d.store[16] = d.store[16].wrapping_add(1));
+    if count > 0 {
+        damaged(&|d| d.store[24..32].fill(0));
+        damaged(&|d| d.store[536 + 4 * count - 1] = 0xFF);
+        damaged(&|d| d.table[0] = 64);
+        damaged(&|d| d.table[4 * count - 3] = 255);
+        damaged(&|d| d.table[4 * count - 2..4 * count].fill(0));
+        damaged(&|d| d.table.truncate(4 * count - 1));
+        damaged(&|d| d.table.clear());
+    }
+    for mut desk in desks {
+        let mut book = held(&desk.store, &desk.table);
+        for room in [length, length - 1, 0] {
+            if told(&book, &Call::List(room)) != Err(Refusal::Row(0)) {
+                run.fail("a desk that is to be corrupt is not", &[("store", &desk.store), ("table", &desk.table)]);
+            }
+            call(run, &mut desk, &mut book, &Call::List(room), seen);
+        }
+    }
+}
+
 /// Stores of other lengths, cut off or with bytes behind: every call, which the store itself grants or which a row
 /// refuses, leaves all as it was, and so does a fresh one.
 fn lengths(run: &mut Run, seen: &mut Seen) {
@@ -460,6 +618,7 @@ fn lengths(run: &mut Run, seen: &mut Seen) {
         Call::Difference(0, 1),
         Call::Written(plan.len()),
         Call::AtLeast(5),
+        Call::List(list.len()),
         Call::Propose(plan.clone()),
         Call::Add(1, 2, 3),
         Call::Change(0, 11),
@@ -470,6 +629,7 @@ fn lengths(run: &mut Run, seen: &mut Seen) {
         Call::Depot(2),
         Call::Difference(64, 0),
         Call::Written(0),
+        Call::List(0),
         Call::Propose(vec![]),
         Call::Add(64, 2, 3),
         Call::Change(0, 0),
@@ -526,6 +686,8 @@ fn full(run: &mut Run, seen: &mut Seen) {
             Call::Difference(0, 63),
             Call::Written(3_717),
             Call::AtLeast(524_280),
+            Call::List(3_076),
+            Call::List(3_075),
             Call::Add(0, 0, 1),
         ]) {
             call(run, &mut desk, &mut book, &next, seen);

@@ -88,6 +88,7 @@ pub fn desk(call: &Call, store: &mut Lent, table: &mut Lent, given: &Lent, buffe
                 ffi::sulgheti_difference(store.at(), n, table.at(), m, a, b, &mut r.difference, &mut r.second)
             }
             Call::AtLeast(mark) => ffi::sulgheti_at_least(store.at(), n, table.at(), m, mark, &mut r.first),
+            Call::List(_) => ffi::sulgheti_list(store.at(), n, table.at(), m, buffer.at_mut(), buffer.len),
         }
     };
     r

@@ -54,7 +54,7 @@ fn main() {
             random_list(run);
         }
     });
-    let mut seen = [[0; 23]; 9];
+    let mut seen = [[0; 23]; 10];
     part("desk", &mut run, &mut |run| seen = desk::histories(run, 60_000.max(cases / 4)));
     for (kind, row) in desk::missing(&seen) {
         run.fail(&format!("desk call {kind} never answered row {row} (21: success, 22: no store)"), &[]);

@@ -1,26 +1,20 @@
 -- A store call's answer as a code and figures, at bytes that have the length of a store and at others, and that a length that is answered fits. Assumes nothing.
-use Prim.Native.Nat.{ℕ, _*_, _<_, _≤_, _^_}
+use Prim.Native.Nat.{ℕ, _*_, _<_, _^_}
 use mathlib.Core.Bool.{Bool, true, false, cond, not, false≢true}
 use mathlib.Core.List.{List, []}
-use mathlib.Core.Option.{none, some}
 use mathlib.Core.Path.{_≡_, refl, sym, ap, ap₂, _∙_}
 use native.Mathlib.Omega.{arith}
-use borrow.Author.Tests.{eq-eqb, ne-eqb, ltb-false, not-true, not-false}
-use lib.Dec.{ltb, lit<, lit≤}
+use borrow.Author.Tests.{eq-eqb, ne-eqb, not-true, not-false}
+use lib.Dec.{lit<, lit≤}
 use lib.IntN.{ℤ, pos, negℤ}
 use lib.ListN.{length}
-use Rattle.density.specs.Rows.{firstRow}
 use Rattle.records.specs.declared.Edition.{Edition}
 use Rattle.records.specs.Bytes.{Bytes}
-use Rattle.records.specs.Values.{Plan}
 use Rattle.records.specs.Format.{edition1}
-use Rattle.records.specs.Write.{planBytes}
-use Rattle.store.specs.declared.Request.the-variants.{Written}
 use Rattle.store.specs.Calls.{Call, Reply, Told, wrote}
 use Rattle.store.specs.Widths.{Fitting}
-use Rattle.store.specs.Model.{missing, held}
-use Rattle.held_state.specs.Held.{State, planHeld, corrupt}
-use Rattle.store.specs.State.{effectOf, settle, step}
+use Rattle.store.proofs.Writers.{every-writer}
+use Rattle.store.specs.State.{step}
 use Rattle.lent.specs.Lent.{Lent, stateIn, isOf, Called, Freshened}
 use Rattle.lent.proofs.Contracts.{laid-reply}
 use Rattle.codes.specs.declared.Coded.{Coded}
@@ -132,33 +126,8 @@ fresh-code long f = record { code = rw long refl; store = rw long (f .is); reads
 
 -- ---- a length that is answered is one that the buffer holds
 
-module _ (s : State) (input buffer : List ℕ) (n : ℕ) where
-  abbrev asked : Call
-  asked = record { request = Written; input = input; buffer = buffer }
-
-  abbrev bytes : List ℕ
-  bytes = planBytes (s .edition) (planHeld s)
-
-  by-rows : (z h : Bool) (p : Plan) (f : Plan → Bool)
-      → settle (cond z (some 0) (cond (missing (cond h (some p) none)) (some 17) (cond (f (held (cond h (some p) none))) (some 20) none))) s asked (effectOf s asked Written) .reply .answer ≡ wrote n
-      → (f p ≡ false) × (length bytes ≡ n)
-  by-rows true h p f e = let z : _≡_ {A = ℕ} 0 1 = cc in absurd (omega arith)
-  by-rows false false p f e = let z : _≡_ {A = ℕ} 0 1 = cc in absurd (omega arith)
-  by-rows false true p f e = ends (f p) e
-    where
-      ends : (b : Bool) → settle (cond b (some 20) none) s asked (effectOf s asked Written) .reply .answer ≡ wrote n → (b ≡ false) × (length bytes ≡ n)
-      ends true e = let z : _≡_ {A = ℕ} 0 1 = cc in absurd (omega arith)
-      ends false e = (refl, cc)
-
-  step-fits : step s asked .reply .answer ≡ wrote n → n ≤ length buffer
-  unfolding firstRow
-  step-fits e =
-      let r = by-rows (corrupt s) (s .store .held) (planHeld s) (λ (p : Plan). ltb (length buffer) (length (planBytes (s .edition) p))) e in
-      omega (arith, ltb-false (length buffer) (length bytes) (r .0), r .1)
-
-pub length-held : {e : Edition} {s t s' t' last : List ℕ} (buffer : List ℕ) {a : Told}
-    → Called e s t (record { request = Written; input = []; buffer = buffer }) a s' t' last → length buffer * 1 < 2 ^ 63 → (n : ℕ) → a ≡ wrote n → n < 2 ^ 63
-length-held {e} {s} {t} buffer x room n h =
-    let d = step (stateIn e s t) (record { request = Written; input = []; buffer = buffer }) in
-    let k = step-fits (stateIn e s t) [] buffer n (sym (ap (λ (l : Lent). l .reply .answer) (x .is) ∙ ap (λ (r : Reply). r .answer) (laid-reply e s t d)) ∙ h) in
-    omega arith
+pub length-held : {e : Edition} {s t s' t' last : List ℕ} {c : Call} {a : Told} → Called e s t c a s' t' last → length (c .buffer) * 1 < 2 ^ 63
+    → (n : ℕ) → a ≡ wrote n → n < 2 ^ 63
+length-held {e} {s} {t} {c = c} x room n h =
+    let answer = ap (λ (l : Lent). l .reply .answer) (x .is) ∙ ap (λ (r : Reply). r .answer) (laid-reply e s t (step (stateIn e s t) c)) in
+    omega (arith, every-writer (stateIn e s t) c n (sym answer ∙ h) .4)

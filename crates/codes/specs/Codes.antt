@@ -110,7 +110,7 @@ pub record Differs (e : Edition) (s t : List ℕ) (c : Call) (r : ℤ) (x : ℤ)
   pub divisor : y' ≡ cond (isOf e s) (secondOf (answerOf e s t c) y) y
   pub kept : Moved e s t c s t
 
--- "the held plan written out as Make writes"
+-- "the held plan written out as Make writes"; document 02, b: the list written out
 pub record WroteOut (e : Edition) (s t : List ℕ) (c : Call) (r : ℤ) (out : List ℕ) : Type 0 where
   pub code : r ≡ cond (isOf e s) (lengthCode (answerOf e s t c)) noStoreCode
   pub buffer : out ≡ cond (isOf e s) (call e s t c .reply .buffer) (c .buffer)

@@ -9,9 +9,9 @@ ghost use mathlib.Core.List.{[]};
 ghost use Prim.Native.Nat.{ℕ, _<_, _^_};
 ghost use Rattle.store.specs.Calls.{told, wrote};
 ghost use Rattle.records.specs.Format.{edition1};
-ghost use Rattle.store.specs.Trace.{Question};
+ghost use Rattle.store.specs.Trace.{ReadsOnly};
 ghost use Rattle.lent.specs.Lent.{isOf};
-ghost use Rattle.codes.specs.Codes.{rowCode, lengthCode, outcomeOf, Figures};
+ghost use Rattle.codes.specs.Codes.{rowCode, lengthCode, outcomeOf, Figures, WroteOut};
 
 // A store's answer as numbers: its code, two figures and a difference.
 pub struct Coded {
@@ -85,7 +85,7 @@ pub fn outcome(a: Answer, first: u64, second: u64, difference: i64) -> Coded
 }
 
 // The length written, or the row.
-pub fn written(a: Answer) -> i64
+fn written(a: Answer) -> i64
     requires { ⌜ ((n : ℕ) → told a ≡ wrote n → n < 2 ^ 63) ⌝ }
     ensures { λ r. ⌜ r ≡ lengthCode (told a) ⌝ }
 {
@@ -107,7 +107,7 @@ pub fn is_store1(store: &[u8]) -> bool
     store.len() == 2584
 }
 
-// A question for two figures: 0 and they are written, or the row; -257 where the bytes are no store.
+// A call that only reads, for two figures: 0 and they are written, or the row; -257 where the bytes are no store.
 pub fn figures(
     store: &[u8],
     table: &[u8],
@@ -115,7 +115,7 @@ pub fn figures(
     first: &mut u64,
     second: &mut u64,
 ) -> i64
-    requires { ⌜ Question request ⌝ }
+    requires { ⌜ ReadsOnly request ⌝ }
     ensures { λ r. ⌜ Figures edition1 (now (store .entry)) (now (table .entry)) (record { request = request; input = []; buffer = [] }) r (now (first .entry)) (now (second .entry)) (now (first .exit)) (now (second .exit)) ⌝ }
 {
     if !is_store1(store) {
@@ -129,4 +129,16 @@ pub fn figures(
     *first = o.first;
     *second = o.second;
     o.code
+}
+
+// A call that only reads, for what it writes out: the length, or the row; -257 where the bytes are no store.
+pub fn wrote_out(store: &[u8], table: &[u8], request: Request, buffer: &mut [u8]) -> i64
+    requires { ⌜ ReadsOnly request ⌝ }
+    ensures { λ r. ⌜ WroteOut edition1 (now (store .entry)) (now (table .entry)) (record { request = request; input = []; buffer = now (buffer .entry) }) r (now (buffer .exit)) ⌝ }
+{
+    if !is_store1(store) {
+        return -257;
+    }
+    let a = lent::look(edition1(), store, table, request, buffer);
+    written(a)
 }

@@ -14,9 +14,9 @@ use Rattle.script.specs.Hex.{isBytes}
 use Rattle.script.specs.Words.{wordsOf}
 use Rattle.script.specs.Ascii.{is}
 use Rattle.edition1.specs.declared.Request1.the-variants as request
-use Rattle.commands.specs.Commands.{ofNumber, ofDepot, ofLitres, question, oneWord, twoWords, threeWords, callOf, isComment, ofWords, commandOf}
+use Rattle.commands.specs.Commands.{ofNumber, ofDepot, ofLitres, reads, oneWord, twoWords, threeWords, callOf, isComment, ofWords, commandOf}
 use Rattle.commands.specs.declared.Command.{Command}
-use Rattle.commands.specs.declared.Command.the-variants.{Blank, Bad, Table, Call, Written, Check, Make}
+use Rattle.commands.specs.declared.Command.the-variants.{Blank, Bad, Table, Call, Written, Check, Make, ListWritten}
 
 -- r is what was read
 module _ {r : Number} where
@@ -43,6 +43,7 @@ Within (Call request) = Unit {0}
 Within (Written n) = n ≤ 8192
 Within Check = Unit {0}
 Within (Make n) = n ≤ 8192
+Within (ListWritten n) = n ≤ 8192
 
 data Fine (x : Command) : Type 0 where
   fine : Within x → Fine x
@@ -64,14 +65,15 @@ value number.Bad f most text e h = bad
 within-number : (f : ℕ → Command) (most : ℕ) (text : List ℕ) → ((n : ℕ) → n ≤ most → Fine (f n)) → Fine (ofNumber (numberOf most text) f)
 within-number f most text h = value (numberOf most text) f most text refl h
 
-within-question : (name a : List ℕ) → Fine (question name a)
-unfolding question
-within-question name a =
+within-reads : (name a : List ℕ) → Fine (reads name a)
+unfolding reads
+within-reads name a =
     either (is name "share") (within-number (λ i. Call (request.Share i)) _ a (λ i h. fine tt))
     (either (is name "depot") (within-number (λ d. Call (request.Depot d)) _ a (λ d h. fine tt))
     (either (is name "written") (within-number (λ n. Written n) _ a (λ n h. fine h))
     (either (is name "atleast") (within-number (λ m. Call (request.AtLeast m)) _ a (λ m h. fine tt))
-    bad)))
+    (either (is name "list") (within-number (λ n. ListWritten n) _ a (λ n h. fine h))
+    bad))))
 
 within-one : (name a : List ℕ) → Fine (oneWord name a)
 unfolding oneWord
@@ -79,7 +81,7 @@ within-one name a =
     either (is name "table") (within-number (λ n. Table n) _ a (λ n h. fine h))
     (either (is name "load") (either (isBytes a) (fine tt) bad)
     (either (is name "propose") (either (isBytes a) (fine tt) bad)
-    (within-question name a)))
+    (within-reads name a)))
 
 within-two : (name a b : List ℕ) → Fine (twoWords name a b)
 unfolding twoWords
@@ -122,3 +124,6 @@ module _ {r : Command} (line : List ℕ) (e : r ≡ commandOf line) where
 
   pub make-within : (n : ℕ) → r ≡ Make n → n ≤ 8192
   make-within n h = holds (within h)
+
+  pub list-within : (n : ℕ) → r ≡ ListWritten n → n ≤ 8192
+  list-within n h = holds (within h)

@@ -11,7 +11,7 @@ use Rattle.script.specs.declared.Number.{Number}
 use Rattle.script.specs.declared.Number.the-variants as number
 use Rattle.edition1.specs.declared.Request1.the-variants as request
 use Rattle.commands.specs.declared.Command.{Command}
-use Rattle.commands.specs.declared.Command.the-variants.{Blank, Bad, Table, Call, Written, Check, Make}
+use Rattle.commands.specs.declared.Command.the-variants.{Blank, Bad, Table, Call, Written, Check, Make, ListWritten}
 
 -- the command where the word stands for bytes
 abbrev pub ofBytes : List ℕ → Command → Command
@@ -42,9 +42,9 @@ ofPlaces word f = ofNumber (numberOf 600 word) f
 abbrev pub ofSize : List ℕ → (ℕ → Command) → Command
 ofSize word f = ofNumber (numberOf 8192 word) f
 
--- a question and one word behind it
-unfoldable pub question : List ℕ → List ℕ → Command
-question name a =
+-- a call that only reads, and one word behind it
+unfoldable pub reads : List ℕ → List ℕ → Command
+reads name a =
     -- share SITE
     cond (is name "share") (ofSite a (λ i. Call (request.Share i)))
     -- depot D
@@ -53,7 +53,9 @@ question name a =
     (cond (is name "written") (ofSize a (λ n. Written n))
     -- atleast LITRES
     (cond (is name "atleast") (ofThreshold a (λ m. Call (request.AtLeast m)))
-    Bad)))
+    -- list LEN
+    (cond (is name "list") (ofSize a (λ n. ListWritten n))
+    Bad))))
 
 -- a name and one word behind it
 unfoldable pub oneWord : List ℕ → List ℕ → Command
@@ -64,7 +66,7 @@ oneWord name a =
     (cond (is name "load") (ofBytes a (Call request.Load))
     -- propose PLAN
     (cond (is name "propose") (ofBytes a (Call request.Propose))
-    (question name a)))
+    (reads name a)))
 
 -- a name and two words behind it
 unfoldable pub twoWords : List ℕ → List ℕ → List ℕ → Command

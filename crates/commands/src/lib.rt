@@ -4,11 +4,11 @@ use script::Number;
 ghost use mathlib.Core.Path.{_≡_};
 ghost use mathlib.Core.List.{_∷_};
 ghost use Rattle.script.specs.Words.{wordsOf};
-ghost use Rattle.commands.specs.Commands.{ofBytes, ofSite, ofDepot, ofLitres, ofThreshold, ofPlaces, ofSize, question, oneWord, twoWords, threeWords, callOf, commandOf};
-ghost use Rattle.commands.specs.declared.Command.the-variants.{Table, Call, Written, Check, Make};
+ghost use Rattle.commands.specs.Commands.{ofBytes, ofSite, ofDepot, ofLitres, ofThreshold, ofPlaces, ofSize, reads, oneWord, twoWords, threeWords, callOf, commandOf};
+ghost use Rattle.commands.specs.declared.Command.the-variants.{Table, Call, Written, Check, Make, ListWritten};
 ghost use Rattle.edition1.specs.declared.Request1.the-variants.{Share, Depot, Change, Difference, Add, AtLeast};
 
-// What a line asks for. A `Call` is a call of the desk; `written`, which takes a buffer, has a variant of its own. Bytes are not held: they are words of the line.
+// What a line asks for. A `Call` is a call of the desk; `written` and `list`, which take a buffer, have variants of their own. Bytes are not held: they are words of the line.
 pub enum Command {
     Blank,
     Bad,
@@ -17,6 +17,7 @@ pub enum Command {
     Written(usize),
     Check,
     Make(usize),
+    ListWritten(usize),
 }
 
 // The most places of a table.
@@ -85,6 +86,16 @@ fn written(text: &[u8]) -> Command
     }
 }
 
+// list LEN
+fn list(text: &[u8]) -> Command
+    ensures { λ r. ⌜ r ≡ ofSize (now (text .entry)) (λ n. ListWritten n) ⌝ }
+{
+    match script::decimal(text, SIZE) {
+        Number::Value(n) => Command::ListWritten(n as usize),
+        Number::Bad => Command::Bad,
+    }
+}
+
 // atleast LITRES
 fn at_least(text: &[u8]) -> Command
     ensures { λ r. ⌜ r ≡ ofThreshold (now (text .entry)) (λ m. Call (AtLeast m)) ⌝ }
@@ -95,9 +106,9 @@ fn at_least(text: &[u8]) -> Command
     }
 }
 
-// The question of a name with one word behind it.
-fn question(name: &[u8], word: &[u8]) -> Command
-    ensures { λ r. ⌜ r ≡ question (now (name .entry)) (now (word .entry)) ⌝ }
+// The call that only reads, by its name and one word behind it.
+fn reads(name: &[u8], word: &[u8]) -> Command
+    ensures { λ r. ⌜ r ≡ reads (now (name .entry)) (now (word .entry)) ⌝ }
 {
     if check::same(name, b"share") {
         return share(word);
@@ -110,6 +121,9 @@ fn question(name: &[u8], word: &[u8]) -> Command
     }
     if check::same(name, b"atleast") {
         return at_least(word);
+    }
+    if check::same(name, b"list") {
+        return list(word);
     }
     Command::Bad
 }
@@ -127,7 +141,7 @@ fn one_word(name: &[u8], word: &[u8]) -> Command
     if check::same(name, b"propose") {
         return given(word, Command::Call(Request1::Propose));
     }
-    question(name, word)
+    reads(name, word)
 }
 
 // change SITE LITRES

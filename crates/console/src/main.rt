@@ -14,6 +14,7 @@
 //   difference A B             `difference`, the difference (with a minus sign where it is below zero) and its divisor
 //   atleast LITRES             `set` and the eight bytes, as in a plan's group, of the depots whose W/q is at least so many litres, a number up to 4,294,967,295
 //   written LEN                the held plan in a buffer as for `make`: `length` and its length, or `refused` and the row, and then the whole buffer
+//   list LEN                   the held list likewise, with a plan or without one
 //
 // A depot is a number up to 255, litres up to 65,535, a site up to 2^64 - 1.
 // Bytes are hexadecimal, of either case, without spaces, `-` for none; they are printed in upper case. Numbers are decimal. Words stand apart by one or more spaces, and spaces before the first and behind the last are passed over.
@@ -199,10 +200,10 @@ fn run_table(places: usize) -> Desk
     fresh(places)
 }
 
-// The end of a line with a call's answer: `written` prints the buffer.
+// The end of a line with a call's answer: `written` and `list` print the buffer.
 fn end_call(request: Request1, buffer: &[u8]) {
     match request {
-        Request1::Written => print_buffer(buffer),
+        Request1::Written | Request1::ListWritten => print_buffer(buffer),
         _ => end_answer(),
     }
 }
@@ -276,6 +277,7 @@ fn run_line(desk: Desk, line: &[u8]) -> Desk {
         Command::Table(n) => run_table(n),
         Command::Call(request) => run_call(desk, request, script::rest(line), 0),
         Command::Written(n) => run_call(desk, Request1::Written, script::rest(line), n),
+        Command::ListWritten(n) => run_call(desk, Request1::ListWritten, script::rest(line), n),
         _ => {
             run_apart(command, line);
             desk

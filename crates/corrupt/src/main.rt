@@ -156,10 +156,10 @@ fn same_answer(a: Answer, b: Answer) -> bool {
     x.difference == y.difference
 }
 
-// What a call leaves, and whether the buffer that it was lent is as before.
+// What a call leaves, and the buffer that it was lent.
 struct Left {
     out: OutOn1,
-    blank: bool,
+    buffer: [u8; 20],
 }
 
 fn is_blank(buffer: [u8; 20]) -> bool {
@@ -172,15 +172,11 @@ fn called(d: Desk, request: Request1, input: &[u8]) -> Left {
     let table = d.table;
     let mut buffer = [0xA5u8; 20];
     let out = call_on1(store, table, d.places, request, input, &mut buffer);
-    Left {
-        out,
-        blank: is_blank(buffer),
-    }
+    Left { out, buffer }
 }
 
-// The call gets this answer, and the desk, the table and the buffer are as before.
-fn stays(d: Desk, request: Request1, input: &[u8], expected: Answer) -> bool {
-    let left = called(d, request, input);
+// The call gets this answer, and the desk and the table are as before.
+fn answers(d: Desk, left: Left, expected: Answer) -> bool {
     let out = left.out;
     let answer = out.answer;
     if !same_answer(answer, expected) {
@@ -193,10 +189,27 @@ fn stays(d: Desk, request: Request1, input: &[u8], expected: Answer) -> bool {
     }
     let table = d.table;
     let sites = out.table;
-    if !same_table(table, sites) {
+    same_table(table, sites)
+}
+
+// So is the buffer.
+fn stays(d: Desk, request: Request1, input: &[u8], expected: Answer) -> bool {
+    let left = called(d, request, input);
+    if !answers(d, left, expected) {
         return false;
     }
-    left.blank
+    let buffer = left.buffer;
+    is_blank(buffer)
+}
+
+// The list written out has this length, and the buffer then is this.
+fn lists(d: Desk, n: usize, whole: &[u8]) -> bool {
+    let left = called(d, Request1::ListWritten, b"");
+    if !answers(d, left, Answer::Length(n)) {
+        return false;
+    }
+    let buffer = left.buffer;
+    check::same(&buffer, whole)
 }
 
 // The call is done, no plan is held then and this many sites are, and all places for groups and shares are zero.
@@ -234,7 +247,7 @@ fn loaded(t: Tally, d: Desk) -> Tally {
     tallied(u, clears(d, Request1::Load, b"LS\x00\x00", 0))
 }
 
-// The calls that try row 0 answer it: those that would write, and the questions.
+// The calls that try row 0 answer it: those that would write, and those that only read.
 fn no_writes(start: Tally, d: Desk) -> Tally {
     let zero = Answer::Refused(0);
     let t = asked(start, d, Request1::Change(0, 1), zero);
@@ -249,7 +262,8 @@ fn no_answers(start: Tally, d: Desk) -> Tally {
     let u = asked(t, d, Request1::Depot(0), zero);
     let v = asked(u, d, Request1::Difference(0, 1), zero);
     let w = asked(v, d, Request1::AtLeast(0), zero);
-    asked(w, d, Request1::Written, zero)
+    let x = asked(w, d, Request1::ListWritten, zero);
+    asked(x, d, Request1::Written, zero)
 }
 
 // Row 0 in every call but load; a list that is refused, and the empty list, which is not.
@@ -321,6 +335,17 @@ fn corrupt_own(start: Tally) -> Tally {
     corrupt(u, planned(two, 1, 3, 0, 14, 13))
 }
 
+// The list written out.
+fn written_out(t: Tally, d: Desk, n: usize, whole: &[u8]) -> Tally {
+    tallied(t, lists(d, n, whole))
+}
+
+// The list T, of 10 bytes.
+fn written_t(t: Tally, d: Desk) -> Tally {
+    let whole = b"LS\x01\x00ST\x00\x01\x0A\x00\xA5\xA5\xA5\xA5\xA5\xA5\xA5\xA5\xA5\xA5";
+    written_out(t, d, 10, whole)
+}
+
 // A plan that only row 15 refuses is answered from what is held.
 fn uneven(start: Tally) -> Tally {
     let no = site(0, 0, 0);
@@ -328,7 +353,8 @@ fn uneven(start: Tally) -> Tally {
     let t = asked(start, d, Request1::Share(0), Answer::Share(11, 20));
     let u = asked(t, d, Request1::Depot(1), Answer::Depot(10, 2));
     let v = asked(u, d, Request1::Written, Answer::Refused(20));
-    cleared(v, d, Request1::Change(0, 10), 1)
+    let w = written_t(v, d);
+    cleared(w, d, Request1::Change(0, 10), 1)
 }
 
 // A plan that only row 16 refuses likewise.
@@ -340,7 +366,9 @@ fn rising(start: Tally) -> Tally {
     let zero = Answer::Difference(0, 1);
     let u = asked(t, d, Request1::Difference(0, 1), zero);
     let v = proposed(u, d, 9);
-    cleared(v, d, Request1::Add(0, 1, 1), 3)
+    let whole = b"LS\x02\x00ST\x00\x00\x04\x00ST\x01\x01\x04\x00\xA5\xA5\xA5\xA5";
+    let w = written_out(v, d, 16, whole);
+    cleared(w, d, Request1::Add(0, 1, 1), 3)
 }
 
 // The depots that reach a threshold are read from the held groups in order, up to the first below it. Here W/q is 4 and then 9, which only row 16 refuses.
@@ -377,7 +405,8 @@ fn beyond(start: Tally) -> Tally {
     let v = asked(u, d, Request1::Share(1), Answer::Refused(18));
     let w = asked(v, d, Request1::AtLeast(5), Answer::Reached(3));
     let x = asked(w, d, Request1::AtLeast(6), Answer::Reached(0));
-    cleared(x, d, Request1::Add(2, 3, 4), 2)
+    let y = written_t(x, d);
+    cleared(y, d, Request1::Add(2, 3, 4), 2)
 }
 
 // Nor is a plan's content beside "no plan held".
@@ -390,7 +419,8 @@ fn beside(start: Tally) -> Tally {
     let t = asked(s, d, Request1::Share(0), Answer::Refused(17));
     let u = asked(t, d, Request1::Add(0, 1, 1), Answer::Refused(2));
     let v = asked(u, d, Request1::Propose, Answer::Refused(7));
-    cleared(v, d, Request1::Change(0, 10), 1)
+    let w = written_t(v, d);
+    cleared(w, d, Request1::Change(0, 10), 1)
 }
 
 // The table with another site at a place, if it has that place.
@@ -415,7 +445,8 @@ fn stores(d: Desk, request: Request1, input: &[u8], count: usize, k: usize, x: S
     if !same_table(expected, table) {
         return false;
     }
-    left.blank
+    let buffer = left.buffer;
+    is_blank(buffer)
 }
 
 // A change of the last site held and an add.
@@ -432,11 +463,12 @@ fn stored_list(t: Tally, d: Desk) -> Tally {
     tallied(t, stores(d, Request1::Load, list, 1, 0, site(0, 1, 10)))
 }
 
-// Calls that are refused: no bytes, a site that is not held, and a site more than the table has places, or than 512.
+// Calls that are refused: no bytes, a site that is not held, a list of at least 22 bytes written out, and a site more than the table has places, or than 512.
 fn stored_none(start: Tally, d: Desk, count: usize, full: Desk) -> Tally {
     let t = asked(start, d, Request1::Load, Answer::Refused(1));
     let u = asked(t, d, Request1::Change(count, 7), Answer::Refused(18));
-    asked(u, full, Request1::Add(4, 5, 6), Answer::Refused(2))
+    let v = asked(u, full, Request1::ListWritten, Answer::Refused(20));
+    asked(v, full, Request1::Add(4, 5, 6), Answer::Refused(2))
 }
 
 // A table of so many places, of which all, or 512, can hold sites, and all of these but one do.
@@ -456,8 +488,10 @@ fn lent_none(start: Tally) -> Tally {
     let t = tallied(start, stays(d, Request1::Load, list, Answer::Refused(2)));
     let u = asked(t, d, Request1::Change(0, 7), Answer::Refused(18));
     let v = asked(u, d, Request1::Add(4, 5, 6), Answer::Refused(2));
+    let whole = b"LS\x00\x00\xA5\xA5\xA5\xA5\xA5\xA5\xA5\xA5\xA5\xA5\xA5\xA5\xA5\xA5\xA5\xA5";
+    let w = written_out(v, d, 4, whole);
     let empty = stores(d, Request1::Load, b"LS\x00\x00", 0, 600, x);
-    tallied(v, empty)
+    tallied(w, empty)
 }
 
 fn main() {

@@ -15,7 +15,7 @@ use base.Logic.{SProp}
 use denote.Ref.{RefT, now}
 use lib.IntN.{ℤ}
 use Rattle.records.specs.Format.{edition1}
-use Rattle.store.specs.declared.Request.the-variants.{Load, Change, Add, Propose, Share, Depot, Difference, Written, AtLeast}
+use Rattle.store.specs.declared.Request.the-variants.{Load, Change, Add, Propose, Share, Depot, Difference, Written, AtLeast, ListWritten}
 use Rattle.codes.specs.Codes.{Did, Figures, OneFigure, Differs, WroteOut, FreshCode}
 use Rattle.desk.specs.Exports.{asked}
 use Rattle.desk.proofs.sulgheti_fresh as of-fresh
@@ -28,6 +28,7 @@ use Rattle.desk.proofs.sulgheti_depot as of-depot
 use Rattle.desk.proofs.sulgheti_difference as of-difference
 use Rattle.desk.proofs.sulgheti_written as of-written
 use Rattle.desk.proofs.sulgheti_at_least as of-at-least
+use Rattle.desk.proofs.sulgheti_list as of-list
 
 module _ {M : Type 1} (𝓤 : URA M) (H : Heap 𝓤) (A : Atoms 𝓤) (mem : Memory → SProp 𝓤) (run : Routine → Fun 𝓤) (s s' : RefT (List ℕ)) where
   open Connectives (connectives 𝓤) using (⌜_⌝, ⊤ₛ)
@@ -110,3 +111,11 @@ module _ {M : Type 1} (𝓤 : URA M) (H : Heap 𝓤) (A : Atoms 𝓤) (mem : Mem
 
     at-least-asks : (κs : Lfts 3) (m : ℕ) (x : RefT ℕ) → of-at-least.clauses 𝓤 H A mem run κs (s, (t, (m, (x, tt)))) .requires tt ≡ ⊤ₛ
     at-least-asks κs m x = refl
+
+    list-says : (κs : Lfts 3) (out out' : RefT (List ℕ))
+        → of-list.clauses 𝓤 H A mem run κs (s, (t, (out, tt))) .ensures tt r (s', (t', (out', tt)))
+        ≡ ⌜ WroteOut edition1 (now s) (now t) (asked ListWritten [] (now out)) r (now out') ⌝
+    list-says κs out out' = refl
+
+    list-asks : (κs : Lfts 3) (out : RefT (List ℕ)) → of-list.clauses 𝓤 H A mem run κs (s, (t, (out, tt))) .requires tt ≡ ⊤ₛ
+    list-asks κs out = refl

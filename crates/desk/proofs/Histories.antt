@@ -1,6 +1,6 @@
 -- The contracts of the exported functions of the store say what `Did`, `Figures`, `OneFigure`, `Differs`, `WroteOut` and `FreshCode` say of edition 1 (Contracts); so any calls of them,
 -- from what `sulgheti_fresh` writes where it answers 0 and a table of any bytes, are a history of document 01, and each code, figure and buffer that they give is that of the
--- history's reply. The laws are over the edition. Assumes nothing.
+-- history's reply. What is written out of a list, and loaded, is the same list. The laws are over the edition. Assumes nothing.
 use Prim.Native.Nat.{ℕ, zero, suc}
 use mathlib.Core.Bool.{Bool, true, false, cond}
 use mathlib.Core.List.{List, [], _∷_}
@@ -9,24 +9,27 @@ use mathlib.Core.Path.{_≡_, refl, sym, ap, ap₂, _∙_, subst}
 use native.Mathlib.Omega.{arith}
 use lib.Dec.{eqb}
 use lib.IntN.{ℤ, pos, negℤ}
+use lib.ListN.{take}
 use Rattle.records.specs.declared.Edition.{Edition}
-use Rattle.records.specs.Format.{edition1}
+use Rattle.records.specs.Bytes.{Bytes}
+use Rattle.records.specs.Outcome.{passed}
+use Rattle.records.specs.Format.{edition1, readList}
 use Rattle.records.specs.Write.{Marked}
 use Rattle.records.proofs.Samples.{marked1}
 use Rattle.held_state.specs.declared.Store.{Store}
 use Rattle.held_state.specs.Held.{State, on}
-use Rattle.store.specs.declared.Request.{Request}
-use Rattle.store.specs.declared.Request.the-variants.{Share, Depot, Difference, AtLeast}
-use Rattle.store.specs.Calls.{Call, Reply, Told}
+use Rattle.store.specs.declared.Request.the-variants.{Load, Share, Depot, Difference, AtLeast, ListWritten}
+use Rattle.store.specs.Calls.{Call, Reply, Told, wrote}
 use Rattle.store.specs.State.{Done, modelOf, effectOf, refusal, settle, step}
-use Rattle.store.specs.Trace.{Run, start, then, Steps, History, AllBytes, Exact, SameFigures}
+use Rattle.store.specs.Trace.{Run, start, then, Steps, History, AllBytes, Exact, ListRoundTrip, SameFigures}
 use Rattle.store.proofs.History.{exact, same-figures}
 use Rattle.layout.specs.Layout.{storeSize, sitesIn}
+use Rattle.layout.proofs.RoundTrip.{length-sites}
 use Rattle.lent.specs.Lent.{stateIn, isOf, call, Freshened}
-use Rattle.lent.proofs.Contracts.{laid-reply, fresh-sized}
-use Rattle.codes.specs.Codes.{rowCode, noStoreCode, doneCode, firstOf, secondOf, differenceOf, answerOf, Moved, FreshCode}
+use Rattle.lent.proofs.Contracts.{laid-reply, fresh-sized, bytes-list}
+use Rattle.codes.specs.Codes.{rowCode, noStoreCode, doneCode, lengthCode, firstOf, secondOf, differenceOf, answerOf, Moved, WroteOut, FreshCode}
 use Rattle.codes.proofs.DeskCodes.{other-code}
-use Rattle.desk.specs.Exports.{Given, coded, figures, differs, written, oneFigure, Exported, Answers, AllAnswer, Calls, none, next, question, SameGiven}
+use Rattle.desk.specs.Exports.{Given, coded, figures, differs, written, oneFigure, Exported, Answers, AllAnswer, Calls, none, next, asked, question, SameGiven, ListGiven}
 
 module _ (e : Edition) (s t s' t' : List ℕ) (c : Call) where
   as-kept : s' ≡ s → t' ≡ t → Moved e s t c s t → Moved e s t c s' t'
@@ -68,23 +71,23 @@ unfolding AllBytes
 inputs none = tt
 inputs {e} {s} {t} (next {s₁ = s₁} {t₁ = t₁} {c = c} {g = g} x calls) = (moved e s t s₁ t₁ c g x .bytes, inputs calls)
 
--- a row's code is not 0
-row-not-done : (n : ℕ) → pos 0 ≡ rowCode n → ⊥
-row-not-done zero e = let z : _≡_ {A = ℕ} 0 1 = cc in omega arith
-row-not-done (suc n) e =
-    let k : pos 0 ≡ negℤ (pos (suc n)) = e ∙ sym (other-code (suc n) (λ h. omega arith)) in
+-- a row's code is neither 0 nor a length
+row-not-length : (m n : ℕ) → pos m ≡ rowCode n → ⊥
+row-not-length m zero e = let z : _≡_ {A = ℕ} 0 1 = cc in omega arith
+row-not-length m (suc n) e =
+    let k : pos m ≡ negℤ (pos (suc n)) = e ∙ sym (other-code (suc n) (λ h. omega arith)) in
     let z : _≡_ {A = ℕ} 0 1 = cc in
     omega arith
 
--- what answers 0 has been given a store
-done-there : (x : ℤ) (b : Bool) → pos 0 ≡ cond b x noStoreCode → b ≡ true
-done-there x true h = refl
-done-there x false h = let z : _≡_ {A = ℕ} 0 1 = cc in absurd (omega arith)
+-- what answers 0 or a length has been given a store
+length-there : (m : ℕ) (x : ℤ) (b : Bool) → pos m ≡ cond b x noStoreCode → b ≡ true
+length-there m x true h = refl
+length-there m x false h = let z : _≡_ {A = ℕ} 0 1 = cc in absurd (omega arith)
 
 -- `sulgheti_fresh` answers 0 only where it has written a fresh store
 done-fresh : {e : Edition} {s₀ s : List ℕ} → FreshCode e s₀ (pos 0) s → Freshened e s
 done-fresh {e} {s₀} f =
-    let long = done-there (pos 0) (isOf e s₀) (f .code) in
+    let long = length-there 0 (pos 0) (isOf e s₀) (f .code) in
     record { is = rw long at (f .store); reads = f .reads long }
 
 module _ {e : Edition} {s₀ s t s' t' : List ℕ} {cs : List Call} {gs : List Given} (f : FreshCode e s₀ (pos 0) s) (calls : Calls e s t cs gs s' t') where
@@ -101,26 +104,26 @@ module _ {e : Edition} {s₀ s t s' t' : List ℕ} {cs : List Call} {gs : List G
 -- ---- two stores that hold the same list
 
 -- what has the code 0 is what no row refuses
-module _ (e : Edition) (s t : List ℕ) (q : Request) where
+module _ (e : Edition) (s t : List ℕ) (c : Call) where
   abbrev answer : Told
-  answer = answerOf e s t (question q)
+  answer = answerOf e s t c
 
   abbrev granted : Told
-  granted = effectOf (stateIn e s t) (question q) q .reply .answer
+  granted = effectOf (stateIn e s t) c (c .request) .reply .answer
 
-  not-refused : (o : Option ℕ) → answer ≡ settle o (stateIn e s t) (question q) (effectOf (stateIn e s t) (question q) q) .reply .answer → pos 0 ≡ doneCode answer → answer ≡ granted
+  not-refused : (o : Option ℕ) → answer ≡ settle o (stateIn e s t) c (effectOf (stateIn e s t) c (c .request)) .reply .answer → pos 0 ≡ doneCode answer → answer ≡ granted
   not-refused none h k = h
-  not-refused (some n) h k = absurd (row-not-done n (k ∙ ap doneCode h))
+  not-refused (some n) h k = absurd (row-not-length 0 n (k ∙ ap doneCode h))
 
-  module _ (m : Moved e s t (question q) s t) (code : pos 0 ≡ cond (isOf e s) (doneCode answer) noStoreCode) where
+  module _ {s' t' : List ℕ} (m : Moved e s t c s' t') (code : pos 0 ≡ cond (isOf e s) (doneCode answer) noStoreCode) where
     long : isOf e s ≡ true
-    long = done-there (doneCode answer) (isOf e s) code
+    long = length-there 0 (doneCode answer) (isOf e s) code
 
-    steps : Steps (stateIn e s t) (question q) (call e s t (question q) .reply) (stateIn e s t)
-    steps = is-step e s t s t (question q) long m
+    steps : Steps (stateIn e s t) c (call e s t c .reply) (stateIn e s' t')
+    steps = is-step e s t s' t' c long m
 
     answered : answer ≡ granted
-    answered = not-refused (refusal (stateIn e s t) (question q)) (ap (λ (d : Done). d .reply .answer) steps) (rw long at code)
+    answered = not-refused (refusal (stateIn e s t) c) (ap (λ (d : Done). d .reply .answer) steps) (rw long at code)
 
     -- a figure that is asked for is that of the answer
     given : {A : Type 0} (of : Told → A) {r : A} (y : A) → r ≡ cond (isOf e s) (of answer) y → r ≡ of granted
@@ -132,15 +135,15 @@ module _ {e : Edition} {s₁ t₁ s₂ t₂ : List ℕ} (h : SameFigures (stateI
   same-given =
       record {
         site = λ i x₁ y₁ x₁' y₁' x₂ y₂ x₂' y₂' f g.
-            let q = Share i in
-            let same = h .site (question q) (question q) i _ _ _ _ _ _ _ _ refl refl (steps e s₁ t₁ q (f .kept) (f .code)) (steps e s₂ t₂ q (g .kept) (g .code))
+            let q = question (Share i) in
+            let same = h .site q q i _ _ _ _ _ _ _ _ refl refl (steps e s₁ t₁ q (f .kept) (f .code)) (steps e s₂ t₂ q (g .kept) (g .code))
             (answered e s₁ t₁ q (f .kept) (f .code)) (answered e s₂ t₂ q (g .kept) (g .code)) in
             given e s₁ t₁ q (f .kept) (f .code) (λ (a : Told). secondOf a y₁) y₁ (f .second)
             ∙ same
             ∙ sym (given e s₂ t₂ q (g .kept) (g .code) (λ (a : Told). secondOf a y₂) y₂ (g .second));
         depot = λ d x₁ y₁ x₁' y₁' x₂ y₂ x₂' y₂' f g.
-            let q = Depot d in
-            let same = h .depot (question q) (question q) d _ _ _ _ _ _ _ _ refl refl (steps e s₁ t₁ q (f .kept) (f .code)) (steps e s₂ t₂ q (g .kept) (g .code))
+            let q = question (Depot d) in
+            let same = h .depot q q d _ _ _ _ _ _ _ _ refl refl (steps e s₁ t₁ q (f .kept) (f .code)) (steps e s₂ t₂ q (g .kept) (g .code))
             (answered e s₁ t₁ q (f .kept) (f .code)) (answered e s₂ t₂ q (g .kept) (g .code)) in (
               given e s₁ t₁ q (f .kept) (f .code) (λ (a : Told). firstOf a x₁) x₁ (f .first)
                   ∙ same .0
@@ -150,8 +153,8 @@ module _ {e : Edition} {s₁ t₁ s₂ t₂ : List ℕ} (h : SameFigures (stateI
                   ∙ sym (given e s₂ t₂ q (g .kept) (g .code) (λ (a : Told). secondOf a y₂) y₂ (g .second)),
             );
         differences = λ a b x₁ y₁ x₁' y₁' x₂ y₂ x₂' y₂' f g.
-            let q = Difference a b in
-            let same = h .differences (question q) (question q) a b _ _ _ _ _ _ _ _ refl refl (steps e s₁ t₁ q (f .kept) (f .code)) (steps e s₂ t₂ q (g .kept) (g .code))
+            let q = question (Difference a b) in
+            let same = h .differences q q a b _ _ _ _ _ _ _ _ refl refl (steps e s₁ t₁ q (f .kept) (f .code)) (steps e s₂ t₂ q (g .kept) (g .code))
             (answered e s₁ t₁ q (f .kept) (f .code)) (answered e s₂ t₂ q (g .kept) (g .code)) in (
               given e s₁ t₁ q (f .kept) (f .code) (λ (a : Told). differenceOf a x₁) x₁ (f .difference)
                   ∙ same .0
@@ -161,8 +164,8 @@ module _ {e : Edition} {s₁ t₁ s₂ t₂ : List ℕ} (h : SameFigures (stateI
                   ∙ sym (given e s₂ t₂ q (g .kept) (g .code) (λ (a : Told). secondOf a y₂) y₂ (g .divisor)),
             );
         at-least = λ m x₁ x₁' x₂ x₂' f g.
-            let q = AtLeast m in
-            let same = h .at-least (question q) (question q) m _ _ _ _ _ _ refl refl (steps e s₁ t₁ q (f .kept) (f .code)) (steps e s₂ t₂ q (g .kept) (g .code))
+            let q = question (AtLeast m) in
+            let same = h .at-least q q m _ _ _ _ _ _ refl refl (steps e s₁ t₁ q (f .kept) (f .code)) (steps e s₂ t₂ q (g .kept) (g .code))
             (answered e s₁ t₁ q (f .kept) (f .code)) (answered e s₂ t₂ q (g .kept) (g .code)) in
             given e s₁ t₁ q (f .kept) (f .code) (λ (a : Told). firstOf a x₁) x₁ (f .figure)
             ∙ same
@@ -179,6 +182,50 @@ calls-same m f x g y l =
     let h = same-figures e d l in
     (h, same-given h)
 
+-- ---- the list written out
+
+-- a length is answered where no row refuses
+wrote-by : (s : State) (c : Call) (n : ℕ) (o : Option ℕ) → pos n ≡ lengthCode (settle o s c (effectOf s c ListWritten) .reply .answer)
+    → settle o s c (effectOf s c ListWritten) .reply .answer ≡ wrote n
+wrote-by s c n none h = cc
+wrote-by s c n (some k) h = absurd (row-not-length n k h)
+
+module _ {e : Edition} {s t buffer out : List ℕ} {n : ℕ} (w : WroteOut e s t (asked ListWritten [] buffer) (pos n) out) where
+  abbrev listCall : Call
+  listCall = asked ListWritten [] buffer
+
+  list-long : isOf e s ≡ true
+  list-long = length-there n (lengthCode (answerOf e s t listCall)) (isOf e s) (w .code)
+
+  list-steps : Steps (stateIn e s t) listCall (call e s t listCall .reply) (stateIn e s t)
+  list-steps = is-step e s t s t listCall list-long (w .kept)
+
+  list-wrote : call e s t listCall .reply .answer ≡ wrote n
+  list-wrote =
+      let k = ap (λ (d : Done). d .reply .answer) list-steps in
+      k ∙ wrote-by (stateIn e s t) listCall n (refusal (stateIn e s t) listCall) ((rw list-long at (w .code)) ∙ ap lengthCode k)
+
+  list-out : out ≡ call e s t listCall .reply .buffer
+  list-out = rw list-long at (w .buffer)
+
+list-given : {e : Edition} {s t : List ℕ} → ListRoundTrip (stateIn e s t) → ListGiven e s t
+list-given {e} {s} {t} trip =
+    record {
+      reads = λ buffer out n places w room.
+          subst (λ (z : List ℕ). readList e places (take n z) ≡ passed (modelOf (stateIn e s t) .list)) (sym (list-out w))
+          (trip .reads (listCall w) _ _ n places refl (list-steps w) (list-wrote w) room);
+      loads = λ buffer out u v u' v' n r w long room d.
+          let c = asked Load (take n out) [] in
+          let k = trip .loads (listCall w) c _ (call e u v c .reply) _ (stateIn e u v) (stateIn e u' v') n refl (list-steps w) (list-wrote w) refl (rw length-sites room) refl
+          (ap (take n) (list-out w)) (is-step e u v u' v' c long (d .moved)) in
+          ((rw long at (d .code)) ∙ ap doneCode (k .0), k .1);
+      again = λ list s' t' buffer out n d w.
+          let c = asked Load list [] in
+          let k = trip .again c (listCall w) _ _ (stateIn e s' t') _ n refl (d .moved .bytes) (steps e s t c (d .moved) (d .code)) (answered e s t c (d .moved) (d .code)) refl
+          (list-steps w) (list-wrote w) in
+          (k .0, list-out w ∙ k .1);
+    }
+
 -- ---- the exported functions: edition 1
 
 pub exports-exact : {s₀ s t s' t' : List ℕ} {cs : List Call} {gs : List Given} → FreshCode edition1 s₀ (pos 0) s → Calls edition1 s t cs gs s' t'
@@ -190,3 +237,7 @@ pub calls-same-given : {s₀ s t s' t' u₀ u v u' v' : List ℕ} {cs ds : List 
     → modelOf (stateIn edition1 s' t') .list ≡ modelOf (stateIn edition1 u' v') .list
     → SameFigures (stateIn edition1 s' t') (stateIn edition1 u' v') × SameGiven edition1 s' t' u' v'
 calls-same-given f x g y l = calls-same marked1 f x g y l
+
+-- Document 02, b, at any store and any table of bytes.
+pub exports-list : (s t : List ℕ) → Bytes t → ListGiven edition1 s t
+exports-list s t b = list-given (bytes-list edition1 marked1 s t b)

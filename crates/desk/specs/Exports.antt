@@ -1,12 +1,21 @@
 -- Calls of the exported functions of the store, one after another: what each gives its caller, and how that is the reply of a call.
-use Prim.Native.Nat.{ℕ}
+use Prim.Native.Nat.{ℕ, _≤_}
+use mathlib.Core.Bool.{true}
 use mathlib.Core.List.{List, [], _∷_}
 use mathlib.Core.Path.{_≡_}
 use lib.IntN.{ℤ, pos}
+use lib.ListN.{length, take}
 use Rattle.records.specs.declared.Edition.{Edition}
+use Rattle.records.specs.Outcome.{passed}
+use Rattle.records.specs.Format.{readList}
+use Rattle.records.specs.Write.{onto}
 use Rattle.store.specs.declared.Request.{Request}
-use Rattle.store.specs.declared.Request.the-variants.{Share, Depot, Difference, AtLeast}
+use Rattle.store.specs.declared.Request.the-variants.{Load, Share, Depot, Difference, AtLeast, ListWritten}
 use Rattle.store.specs.Calls.{Call, Reply}
+use Rattle.store.specs.Model.{count}
+use Rattle.store.specs.State.{modelOf}
+use Rattle.layout.specs.Layout.{placesIn}
+use Rattle.lent.specs.Lent.{stateIn, isOf}
 use Rattle.codes.specs.Codes.{doneCode, lengthCode, firstOf, secondOf, differenceOf, Did, Figures, OneFigure, Differs, WroteOut}
 
 -- What a function gives: its code; the figures behind its pointers, before the call and after it; the buffer after it.
@@ -17,7 +26,7 @@ pub data Given : Type 0 where
   written : ℤ → List ℕ → Given
   oneFigure : ℤ → ℕ → ℕ → Given
 
--- the contract of the function that gives so, for the bytes of the store and of the table before and after; a question leaves them
+-- the contract of the function that gives so, for the bytes of the store and of the table before and after; a call that only reads leaves them
 abbrev pub Exported : Edition → List ℕ → List ℕ → Call → Given → List ℕ → List ℕ → Type 0
 Exported e s t c (coded r) s' t' = Did e s t c r s' t'
 Exported e s t c (figures r x y x' y') s' t' = Figures e s t c r x y x' y' × (s' ≡ s) × (t' ≡ t)
@@ -46,7 +55,7 @@ pub data Calls (e : Edition) : List ℕ → List ℕ → List Call → List Give
   next : {s t s₁ t₁ s' t' : List ℕ} {c : Call} {cs : List Call} {g : Given} {gs : List Given}
       → Exported e s t c g s₁ t₁ → Calls e s₁ t₁ cs gs s' t' → Calls e s t (c ∷ cs) (g ∷ gs) s' t'
 
--- a call for a request with its input and buffer; a question, which is given neither
+-- a call for a request with its input and buffer; a question for figures, which is given neither
 abbrev pub asked : Request → List ℕ → List ℕ → Call
 asked q input buffer = record { request = q; input = input; buffer = buffer }
 
@@ -65,3 +74,16 @@ pub record SameGiven (e : Edition) (s₁ t₁ s₂ t₂ : List ℕ) : Type 0 whe
       → Differs e s₂ t₂ (question (Difference a b)) (pos 0) x₂ y₂ x₂' y₂' → (x₁' ≡ x₂') × (y₁' ≡ y₂')
   pub at-least : (m : ℕ) (x₁ x₁' x₂ x₂' : ℕ) → OneFigure e s₁ t₁ (question (AtLeast m)) (pos 0) x₁ x₁'
       → OneFigure e s₂ t₂ (question (AtLeast m)) (pos 0) x₂ x₂' → x₁' ≡ x₂'
+
+-- Document 02, b, of what the functions give: of a list written out its length, and the buffer.
+pub record ListGiven (e : Edition) (s t : List ℕ) : Type 0 where
+  -- "Reading its output yields the same sites"
+  pub reads : (buffer out : List ℕ) (n places : ℕ) → WroteOut e s t (asked ListWritten [] buffer) (pos n) out → count (modelOf (stateIn e s t)) ≤ places
+      → readList e places (take n out) ≡ passed (modelOf (stateIn e s t) .list)
+  -- loaded into a store with room, a fresh one or any other, it leaves a model with an equal list
+  pub loads : (buffer out u v u' v' : List ℕ) (n : ℕ) (r : ℤ) → WroteOut e s t (asked ListWritten [] buffer) (pos n) out → isOf e u ≡ true
+      → count (modelOf (stateIn e s t)) ≤ placesIn (e .litres) v → Did e u v (asked Load (take n out) []) r u' v'
+      → (r ≡ pos 0) × (modelOf (stateIn e u' v') .list ≡ modelOf (stateIn e s t) .list)
+  -- "writing what was read yields the same bytes"
+  pub again : (list s' t' buffer out : List ℕ) (n : ℕ) → Did e s t (asked Load list []) (pos 0) s' t' → WroteOut e s' t' (asked ListWritten [] buffer) (pos n) out
+      → (n ≡ length list) × (out ≡ onto list buffer)

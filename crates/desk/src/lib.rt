@@ -3,7 +3,7 @@
 use codes::figures;
 use codes::is_store1;
 use codes::outcome;
-use codes::written;
+use codes::wrote_out;
 use density::Site;
 use records::edition1;
 use store::Request;
@@ -153,11 +153,7 @@ pub extern "C" fn sulgheti_difference(
 pub extern "C" fn sulgheti_written(store: &[u8], table: &[u8], buffer: &mut [u8]) -> i64
     ensures { λ r. ⌜ WroteOut edition1 (now (store .entry)) (now (table .entry)) (record { request = request.Written; input = []; buffer = now (buffer .entry) }) r (now (buffer .exit)) ⌝ }
 {
-    if !is_store1(store) {
-        return -257;
-    }
-    let a = lent::look(edition1(), store, table, Request::Written, buffer);
-    written(a)
+    wrote_out(store, table, Request::Written, buffer)
 }
 
 // The depots whose W/q is at least so many litres, as a set: 0, or the row.
@@ -172,4 +168,12 @@ pub extern "C" fn sulgheti_at_least(
 {
     let mut none: u64 = 0;
     figures(store, table, Request::AtLeast(litres), depots, &mut none)
+}
+
+// The held list written out: its length, or the row.
+#[no_mangle]
+pub extern "C" fn sulgheti_list(store: &[u8], table: &[u8], buffer: &mut [u8]) -> i64
+    ensures { λ r. ⌜ WroteOut edition1 (now (store .entry)) (now (table .entry)) (record { request = request.ListWritten; input = []; buffer = now (buffer .entry) }) r (now (buffer .exit)) ⌝ }
+{
+    wrote_out(store, table, Request::ListWritten, buffer)
 }

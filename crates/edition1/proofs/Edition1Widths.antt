@@ -35,7 +35,7 @@ use Rattle.store.specs.Widths.{Named, Fits}
 use Rattle.store.proofs.Widths.{step-fits}
 use Rattle.serve.specs.Serve.{Served}
 use Rattle.serve.proofs.FirstPlaces.{same-front, front-there}
-use Rattle.edition1.specs.Edition1.{storeOf1, view1, requestOf1, callOf1, Served1}
+use Rattle.edition1.specs.Edition1.{storeOf1, view1, requestOf1, callOf1, Typed1, Served1}
 
 -- an array of 32-bit figures
 each-fits : (l : List ℕ) (us : List Val) → shadow (each ℕ (u32 .own) l us) → (i : ℕ) → getD l i 0 < 2 ^ 32
@@ -110,9 +110,10 @@ module _ (store : Store1) (sites : List Site1) (places : ℕ) (request : Request
       → Bytes input × Served e w a places q input buffer d last
       → (((i : ℕ) → getD (d .store .shares) i 0 < 2 ^ 32) → storeOf1 held ≡ d .store)
       → (LitresFit (take (d .n) (d .sites)) → map widened (take (d .n) l) ≡ take (d .n) (d .sites))
-      → Bytes input × Served1 store sites places request input buffer (record { answer = d .answer; store = held; sites = l; n = d .n }) last
-  widened-serves {d = d} {held} {l} e w a (r, n) (bytes, s) narrows fronts = (
-    bytes,
-    serves1 d held l (rw (e, w .0, a .0, r) at s) bytes (subst LitresFit (a .0) (a .1))
-        (subst (λ (x : Store). (i : ℕ) → getD (x .shares) i 0 < 2 ^ 32) (w .0) (w .1)) (subst (Named (2 ^ 16)) r n) narrows fronts,
-  )
+      → Typed1 request input × Served1 store sites places request input buffer (record { answer = d .answer; store = held; sites = l; n = d .n }) last
+  widened-serves {d = d} {held} {l} e w a (r, n) (bytes, s) narrows fronts =
+      let named = subst (Named (2 ^ 16)) r n in (
+        (bytes, named),
+        serves1 d held l (rw (e, w .0, a .0, r) at s) bytes (subst LitresFit (a .0) (a .1))
+            (subst (λ (x : Store). (i : ℕ) → getD (x .shares) i 0 < 2 ^ 32) (w .0) (w .1)) named narrows fronts,
+      )

@@ -2,8 +2,9 @@
 use mathlib.Core.Path.{_≡_}
 use mathlib.Core.Bool.{false}
 use mathlib.Core.List.{List, map}
-use Prim.Native.Nat.{ℕ, _≤_}
+use Prim.Native.Nat.{ℕ, _≤_, _^_}
 use lib.ListN.{length, take, replicate}
+use Rattle.records.specs.Bytes.{Bytes}
 use Rattle.records.specs.Format.{edition1}
 use Rattle.table.specs.declared.Site1.{Site1}
 use Rattle.table.specs.Table.{overlay}
@@ -13,12 +14,13 @@ use Rattle.edition1.specs.declared.Store1.{Store1}
 use Rattle.store.specs.declared.Request.{Request}
 use Rattle.store.specs.declared.Request.the-variants as wide
 use Rattle.edition1.specs.declared.Request1.{Request1}
-use Rattle.edition1.specs.declared.Request1.the-variants.{Load, Change, Add, Propose, Share, Depot, Difference, Written, AtLeast}
+use Rattle.edition1.specs.declared.Request1.the-variants.{Load, Change, Add, Propose, Share, Depot, Difference, Written, AtLeast, ListWritten}
 use Rattle.edition1.specs.declared.Decision1.{Decision1}
 use Rattle.edition1.specs.declared.Out1.{Out1}
 use Rattle.store.specs.Calls.{Call, told}
 use Rattle.held_state.specs.Held.{State}
 use Rattle.store.specs.State.{Done, step}
+use Rattle.store.specs.Widths.{Named}
 
 abbrev pub storeOf1 : Store1 → Store
 storeOf1 s = record { count = s .count; held = s .held; grouped = s .grouped; groups = s .groups; shares = s .shares }
@@ -36,9 +38,14 @@ requestOf1 (Depot d) = wide.Depot d
 requestOf1 (Difference a b) = wide.Difference a b
 requestOf1 Written = wide.Written
 requestOf1 (AtLeast m) = wide.AtLeast m
+requestOf1 ListWritten = wide.ListWritten
 
 abbrev pub callOf1 : Request1 → List ℕ → List ℕ → Call
 callOf1 q input buffer = record { request = requestOf1 q; input = input; buffer = buffer }
+
+-- what the types of a call say: its input is bytes, and the litres that it names have 16 bits
+abbrev pub Typed1 : Request1 → List ℕ → Type 0
+Typed1 q input = Bytes input × Named (2 ^ 16) (requestOf1 q)
 
 -- what a call is passed beside the store and the table: a request, an input and a buffer
 pub record Passed1 : Type 0 where

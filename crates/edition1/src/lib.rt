@@ -10,9 +10,8 @@ use table::widen_all;
 ghost use mathlib.Core.Path.{_≡_};
 ghost use Prim.Native.Nat.{ℕ, _<_, _^_};
 ghost use lib.ListN.{getD};
-ghost use Rattle.records.specs.Bytes.{Bytes};
 ghost use Rattle.store.specs.Widths.{Named};
-ghost use Rattle.edition1.specs.Edition1.{storeOf1, requestOf1, fresh1, Served1};
+ghost use Rattle.edition1.specs.Edition1.{storeOf1, requestOf1, fresh1, Typed1, Served1};
 
 // Edition 1: the store by its widths, a share in 32 bits.
 pub struct Store1 {
@@ -34,6 +33,7 @@ pub enum Request1 {
     Difference(u8, u8),
     Written,
     AtLeast(u32),
+    ListWritten,
 }
 
 pub struct Decision1 {
@@ -134,6 +134,7 @@ pub fn widen_request(q: Request1) -> Request
         Request1::Difference(a, b) => Request::Difference(a, b),
         Request1::Written => Request::Written,
         Request1::AtLeast(m) => Request::AtLeast(m),
+        Request1::ListWritten => Request::ListWritten,
     }
 }
 
@@ -146,7 +147,7 @@ pub fn serve1(
     input: &[u8],
     buffer: &mut [u8],
 ) -> Decision1
-    ensures { λ r. ⌜ Bytes (now (input .entry)) × Served1 store sites places request (now (input .entry)) (now (buffer .entry)) r (now (buffer .exit)) ⌝ }
+    ensures { λ r. ⌜ Typed1 request (now (input .entry)) × Served1 store sites places request (now (input .entry)) (now (buffer .entry)) r (now (buffer .exit)) ⌝ }
 {
     let wide = widen_store(store);
     let all = widen_all(sites);

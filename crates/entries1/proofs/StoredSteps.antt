@@ -22,7 +22,7 @@ use Rattle.store.specs.State.{Done, refusal, effectOf, settle, step}
 use Rattle.edition1.specs.declared.Out1.{Out1}
 use Rattle.edition1.specs.declared.Store1.{Store1}
 use Rattle.edition1.specs.declared.Request1.{Request1}
-use Rattle.edition1.specs.declared.Request1.the-variants.{Load, Change, Add, Propose, Share, Depot, Difference, Written, AtLeast}
+use Rattle.edition1.specs.declared.Request1.the-variants.{Load, Change, Add, Propose, Share, Depot, Difference, Written, AtLeast, ListWritten}
 use Rattle.edition1.specs.Edition1.{storeOf1, view1, callOf1, turned1}
 use Rattle.entries1.specs.declared.Places.{Places}
 use Rattle.entries1.specs.Stored.{one, storedOf}
@@ -53,6 +53,7 @@ among (Depot d) count n = among-none n
 among (Difference a b) count n = among-none n
 among Written count n = among-none n
 among (AtLeast m) count n = among-none n
+among ListWritten count n = among-none n
 
 -- what is stored at the places
 abbrev at : {X : Type 0} → Places → List X → List X → List X
@@ -121,6 +122,7 @@ module _ (k : Store1) (table sites : List Site1) (n : ℕ) (input buffer : List 
   all-seen (Difference a b) e = seen-none _ (no-place before (callOf1 (Difference a b) input buffer) refl) e
   all-seen Written e = seen-none _ (no-place before (callOf1 Written input buffer) refl) e
   all-seen (AtLeast m) e = seen-none _ (no-place before (callOf1 (AtLeast m) input buffer) refl) e
+  all-seen ListWritten e = seen-none _ (no-place before (callOf1 ListWritten input buffer) refl) e
 
   pub stored-steps : (q : Request1) (r : Out1) (last : List ℕ) → turned1 r (overlay n sites table) last ≡ step before (callOf1 q input buffer)
       → turned1 r (at (storedOf q (k .count) n) sites table) last ≡ step before (callOf1 q input buffer)

@@ -3,14 +3,13 @@ use mathlib.Core.Path.{_≡_}
 use mathlib.Core.List.{List, [], _∷_}
 use Prim.Native.Nat.{ℕ}
 use lib.ListN.{take, drop}
-use Rattle.records.specs.Bytes.{Bytes}
 use Rattle.table.specs.declared.Site1.{Site1}
 use Rattle.edition1.specs.declared.Store1.{Store1}
 use Rattle.edition1.specs.declared.Out1.{Out1}
 use Rattle.entries1.specs.declared.OutOn1.{OutOn1}
 use Rattle.store.specs.Calls.{Reply, told}
 use Rattle.store.specs.Trace.{Steps}
-use Rattle.edition1.specs.Edition1.{view1, Passed1, passed}
+use Rattle.edition1.specs.Edition1.{view1, Typed1, Passed1, passed}
 
 -- ---- `call1`
 
@@ -29,7 +28,7 @@ replied r = replyOf1 (r .out) (r .buffer)
 
 -- its contract, as `call1-says` has it
 abbrev pub Called1 : Store1 → List Site1 → Passed1 → Result1 → Type 0
-Called1 s table p r = Bytes (p .input) × Steps (view1 s table) (passed p) (replied r) (view1 (r .out .store) (r .table))
+Called1 s table p r = Typed1 (p .request) (p .input) × Steps (view1 s table) (passed p) (replied r) (view1 (r .out .store) (r .table))
 
 -- "Each call gets the desk and the table as the one before left them, and nobody else writes either meanwhile."
 pub data Calls1 : Store1 → List Site1 → List Passed1 → List Result1 → Store1 → List Site1 → Type 0 where
@@ -54,7 +53,7 @@ first k r = record { out = outOf (r .out); table = take k (r .out .table); buffe
 -- its contract, as `call-on1-says` has it
 abbrev pub CalledOn1 : ℕ → Store1 → List Site1 → Passed1 → ResultOn1 → Type 0
 CalledOn1 k s table p r =
-    Bytes (p .input)
+    Typed1 (p .request) (p .input)
     × Steps (view1 s (take k table)) (passed p) (replied (first k r)) (view1 (r .out .store) (take k (r .out .table)))
     × (drop k (r .out .table) ≡ drop k table)
 

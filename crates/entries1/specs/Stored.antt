@@ -5,7 +5,7 @@ use mathlib.Core.Bool.{cond}
 use Prim.Native.Nat.{ℕ, _+_}
 use lib.Dec.{ltb}
 use Rattle.edition1.specs.declared.Request1.{Request1}
-use Rattle.edition1.specs.declared.Request1.the-variants.{Load, Change, Add, Propose, Share, Depot, Difference, Written, AtLeast}
+use Rattle.edition1.specs.declared.Request1.the-variants.{Load, Change, Add, Propose, Share, Depot, Difference, Written, AtLeast, ListWritten}
 use Rattle.entries1.specs.declared.Places.{Places}
 
 abbrev pub none : Places
@@ -29,3 +29,4 @@ storedOf (Depot d) count n = none
 storedOf (Difference a b) count n = none
 storedOf Written count n = none
 storedOf (AtLeast m) count n = none
+storedOf ListWritten count n = none

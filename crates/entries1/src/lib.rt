@@ -9,8 +9,7 @@ ghost use mathlib.Core.Path.{_≡_};
 ghost use Prim.Native.Nat.{min};
 ghost use lib.ListN.{take, drop};
 ghost use Rattle.store.specs.State.{step};
-ghost use Rattle.records.specs.Bytes.{Bytes};
-ghost use Rattle.edition1.specs.Edition1.{view1, callOf1, turned1};
+ghost use Rattle.edition1.specs.Edition1.{view1, callOf1, Typed1, turned1};
 ghost use Rattle.entries1.specs.Stored.{one, storedOf};
 
 // What a call gives back to a program that owns its table.
@@ -36,7 +35,7 @@ pub fn call_on1(
     input: &[u8],
     buffer: &mut [u8],
 ) -> OutOn1
-    ensures { λ r. ⌜ Bytes (now (input .entry)) × (turned1 (record { answer = r .answer; store = r .store }) (take places (r .table)) (now (buffer .exit)) ≡ step (view1 store (take places table)) (callOf1 request (now (input .entry)) (now (buffer .entry)))) × (drop places (r .table) ≡ drop places table) ⌝ }
+    ensures { λ r. ⌜ Typed1 request (now (input .entry)) × (turned1 (record { answer = r .answer; store = r .store }) (take places (r .table)) (now (buffer .exit)) ≡ step (view1 store (take places table)) (callOf1 request (now (input .entry)) (now (buffer .entry)))) × (drop places (r .table) ≡ drop places table) ⌝ }
 {
     let mut t = table;
     let few = places_on1(places);
@@ -84,7 +83,7 @@ pub fn call1(
     input: &[u8],
     buffer: &mut [u8],
 ) -> Out1
-    ensures { λ r. ⌜ Bytes (now (input .entry)) × (turned1 r (now (table .exit)) (now (buffer .exit)) ≡ step (view1 store (now (table .entry))) (callOf1 request (now (input .entry)) (now (buffer .entry)))) ⌝ }
+    ensures { λ r. ⌜ Typed1 request (now (input .entry)) × (turned1 r (now (table .exit)) (now (buffer .exit)) ≡ step (view1 store (now (table .entry))) (callOf1 request (now (input .entry)) (now (buffer .entry)))) ⌝ }
 {
     let sites = table::held1(table);
     let d = serve1(store, sites, table.len(), request, input, buffer);

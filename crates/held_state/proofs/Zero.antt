@@ -135,10 +135,8 @@ module _ (list : ListArray) (k : Summary) (gs ss : List ℕ) (r : Form) (ws : Li
   -- a refusal leaves nothing
   refused : (n : ℕ) → r .verdict ≡ Refused n → ((s : State) → Stands s list k gs ss → true ≡ corrupt s) → Examined list k plan r ws
   refused n v z =
-      record {
-        zero = λ s t. ap refuses v ∙ z s t;
-        kept = λ p h. absurd (fails (refuses (r .verdict)) (ap refuses p) (passes (refuses (r .verdict)) (ap refuses v)));
-      }
+      let passed : r .verdict ≡ Passes → ⊥ = λ p. fails (refuses (r .verdict)) (ap refuses p) (passes (refuses (r .verdict)) (ap refuses v)) in
+      record { zero = λ s t. ap refuses v ∙ z s t; few = λ p. absurd (passed p); kept = λ p h. absurd (passed p) }
 
   pub examined-far : far list k ≡ true → (n : ℕ) → r .verdict ≡ Refused n → Examined list k plan r ws
   examined-far e n v = refused n v (λ s t. zero-far s list k gs ss t e)
@@ -152,6 +150,7 @@ module _ (list : ListArray) (k : Summary) (gs ss : List ℕ) (r : Form) (ws : Li
       examined-none h v =
           record {
             zero = λ s t. ap refuses v ∙ zero-none s list k gs ss t marked e b h;
+            few = λ p. near list k e .0;
             kept = λ p i. absurd (fails (k .held) h (passes (k .held) i));
           }
 
@@ -162,5 +161,6 @@ module _ (list : ListArray) (k : Summary) (gs ss : List ℕ) (r : Form) (ws : Li
       examined-plan h l f =
           record {
             zero = λ s t. ap refuses (f .verdict-is) ∙ form-refuses (listing list) (planIn plan (list .count)) ∙ zero-plan s list k gs ss t marked e b h l;
+            few = λ p. near list k e .0;
             kept = λ p i. f .passed p;
           }

@@ -34,9 +34,10 @@ abbrev pub refuses : Verdict → Bool
 refuses Passes = false
 refuses (Refused n) = true
 
--- What row 0 finds, and what the figures are taken from where it does not refuse a plan that is held.
+-- What row 0 finds, how many sites there are where it does not refuse, and what the figures are taken from where it does not refuse a plan that is held.
 pub record Examined (list : ListArray) (k : Summary) (plan : PlanArray) (r : Form) (ws : List ℕ) : Type 0 where
   pub zero : (s : State) → Stands s list k (plan .groups) (plan .shares) → refuses (r .verdict) ≡ corrupt s
+  pub few : r .verdict ≡ Passes → list .count ≤ 512
   pub kept : r .verdict ≡ Passes → k .held ≡ true → Kept list plan r ws
 
 -- W and q of a depot, by the groups of the plan

@@ -1,5 +1,5 @@
 -- The contracts of the functions over lent bytes, as the program logic has them, say what `Freshened` and `Called` say, and ask the widths, the length and, of `look`,
--- a question: by computation, so a changed contract is refused here. So any calls, from the bytes that `fresh` writes and a table of any bytes, are a history of document 01.
+-- a call that only reads: by computation, so a changed contract is refused here. So any calls, from the bytes that `fresh` writes and a table of any bytes, are a history of document 01.
 -- Assumes nothing.
 use mathlib.Core.Path.{_≡_, refl, ap, ap₂, _∙_, subst}
 use mathlib.Core.Bool.{Bool, true, false, cond}
@@ -29,12 +29,14 @@ use Rattle.store.specs.declared.Request.{Request}
 use Rattle.store.specs.declared.Request.the-variants as request
 use Rattle.store.specs.Calls.{Call, Reply, Told, told}
 use Rattle.store.specs.State.{Done, modelOf, bare, step}
-use Rattle.store.specs.Trace.{Run, start, then, Steps, History, AllBytes, Exact, SameFigures, Question}
+use Rattle.store.specs.Trace.{Run, start, then, Steps, History, AllBytes, ReadsOnly, Exact, ListRoundTrip, SameFigures}
 use Rattle.store.specs.Widths.{Named, Fitting}
 use Rattle.store.proofs.History.{exact, same-figures}
+use Rattle.store.proofs.ListRoundTrip.{list-round-trip}
 use Rattle.layout.specs.Layout.{storeSize, storeBytes, sitesIn, tableOver}
 use Rattle.layout.proofs.RoundTrip.{length-store}
 use Rattle.lent.specs.Lent.{Lent, stateIn, isOf, isKept, lent, laid, Called, Freshened}
+use Rattle.lent.proofs.Served.{litres-fit}
 use Rattle.lent.specs.Calls.{Result, replied, Calls, none, next}
 use Rattle.lent.proofs.fresh as of-fresh
 use Rattle.lent.proofs.load as of-load
@@ -105,7 +107,7 @@ module _ {M : Type 1} (𝓤 : URA M) (H : Heap 𝓤) (A : Atoms 𝓤) (mem : Mem
         → Called e (now store) (now table) (record { request = q; input = input; buffer = now buffer }) (told r) (now store) (now table) (now buffer')) ⌝
     look-says r = refl
 
-    look-asks : of-look.clauses 𝓤 H A mem run κs (e, (store, (table, (q, (buffer, tt))))) .requires tt ≡ ⌜ Fitting e × (isOf e (now store) ≡ true) × Question q ⌝
+    look-asks : of-look.clauses 𝓤 H A mem run κs (e, (store, (table, (q, (buffer, tt))))) .requires tt ≡ ⌜ Fitting e × (isOf e (now store) ≡ true) × ReadsOnly q ⌝
     look-asks = refl
 
   module _ (κs : Lfts 4) (store store' table table' : RefT (List ℕ)) (q : Request) (input input' buffer buffer' : RefT (List ℕ)) where
@@ -168,6 +170,10 @@ module _ {e : Edition} {s t s' t' : List ℕ} {cs : List Call} {rs : List Result
   -- Demand 3 of these calls.
   pub calls-exact : Marked e → Exact e (sitesIn (e .litres) t) cs (map replied rs) (stateIn e s' t')
   calls-exact m = exact m calls-history (calls-bytes calls)
+
+-- Document 02, b: the list written out, at any store and any table of bytes.
+pub bytes-list : (e : Edition) → Marked e → (s t : List ℕ) → Bytes t → ListRoundTrip (stateIn e s t)
+bytes-list e m s t b = list-round-trip (stateIn e s t) m (λ i l. litres-fit e t b i)
 
 -- Two stores that hold the same list after such calls: each W, q, w × q, difference and set of depots that both answer is the same.
 pub calls-same-figures : {e d : Edition} {s t s' t' u v u' v' : List ℕ} {cs ds : List Call} {rs ts : List Result} → Marked e → Marked d → Freshened e s

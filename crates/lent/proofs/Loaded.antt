@@ -25,7 +25,8 @@ use Rattle.held_state.specs.Held.{State, listOf, corrupt}
 use Rattle.store.specs.declared.Request.the-variants.{Load, Propose}
 use Rattle.store.specs.Calls.{Call, same, done}
 use Rattle.store.specs.State.{bare, next, step}
-use Rattle.store_calls.proofs.Steps.{Refuses, load-refused, load-read, proposal-refused, proposal-passed, held-count}
+use Rattle.store.proofs.Settled.{Refuses, load-refused, load-read}
+use Rattle.store_calls.proofs.Steps.{proposal-refused, proposal-passed, held-count}
 use Rattle.layout.specs.Layout.{placesIn, sitesIn}
 use Rattle.layout.proofs.RoundTrip.{length-sites}
 use Rattle.lent.specs.Lent.{stateIn}

@@ -27,12 +27,13 @@ use Rattle.held_state.specs.declared.Summary.{Summary}
 use Rattle.held_state.specs.Held.{State, on, listOf, badSite}
 use Rattle.held_state.specs.Values.{BadKnown, Stands}
 use Rattle.store.specs.declared.Request.{Request}
-use Rattle.store.specs.declared.Request.the-variants.{Load, Change, Add, Propose, Share, Depot, Difference, Written, AtLeast}
+use Rattle.store.specs.declared.Request.the-variants.{Load, Change, Add, Propose, Share, Depot, Difference, Written, AtLeast, ListWritten}
 use Rattle.store.specs.Calls.{Call, Reply, Told, same, done}
 use Rattle.store.specs.Model.{withLitres}
 use Rattle.store.specs.State.{Done, bare, next, stays, effectOf, refusal, settle, step}
-use Rattle.store.specs.Trace.{Question}
+use Rattle.store.specs.Trace.{ReadsOnly}
 use Rattle.store.specs.Widths.{Named, Fits}
+use Rattle.store.proofs.Rules.{reading-leaves}
 use Rattle.store.proofs.Widths.{below, repeated-at, read-at, step-fits}
 use Rattle.store_calls.proofs.Steps.{held-site}
 use Rattle.layout.specs.declared.Header.{Header}
@@ -71,7 +72,7 @@ module _ (e : Edition) where
       by true = numbers-fit (e .share) 512 (drop 536 s) (bytes-drop 536 s b) i
       by false = repeated-at (λ (x : ℕ). x < 256 ^ e .share) 0 (below (e .share)) 512 i
 
-  litres-fit : (t : List ℕ) → Bytes t → (i : ℕ) → getD (sitesIn (e .litres) t) i noSite .litres < 256 ^ e .litres
+  pub litres-fit : (t : List ℕ) → Bytes t → (i : ℕ) → getD (sitesIn (e .litres) t) i noSite .litres < 256 ^ e .litres
   unfolding sitesIn
   litres-fit t b i =
       read-at (λ (x : Site). x .litres < 256 ^ e .litres) noSite (placeIn (e .litres)) (λ r k. field-small r 2 (e .litres) k) (below (e .litres))
@@ -120,21 +121,21 @@ stands e s t {h} {gs} {ss} {list} {k} r l p d g =
       shares = subst (λ (n : ℕ). n ≤ 512 → take n ss ≡ take n (storeIn (e .share) s .shares)) (sym (l .0)) (r .shares);
     }
 
--- ---- a question leaves the state
+-- ---- a call that only reads is so answered that nothing is written
 
 module _ (s : State) (c : Call) where
-  asks-by : (o : Option ℕ) (q : Request) → Question q
-      → (settle o s c (effectOf s c q) .after ≡ s) × (isKept (settle o s c (effectOf s c q) .reply .answer) ≡ true)
-  asks-by (some n) q h = (refl, refl)
-  asks-by none Load h = absurd h
-  asks-by none (Change i w) h = absurd h
-  asks-by none (Add f d w) h = absurd h
-  asks-by none Propose h = absurd h
-  asks-by none (Share i) h = (refl, refl)
-  asks-by none (Depot d) h = (refl, refl)
-  asks-by none (Difference a d) h = (refl, refl)
-  asks-by none Written h = (refl, refl)
-  asks-by none (AtLeast m) h = (refl, refl)
+  reads-by : (o : Option ℕ) (q : Request) → ReadsOnly q → isKept (settle o s c (effectOf s c q) .reply .answer) ≡ true
+  reads-by (some n) q h = refl
+  reads-by none Load h = absurd h
+  reads-by none (Change i w) h = absurd h
+  reads-by none (Add f d w) h = absurd h
+  reads-by none Propose h = absurd h
+  reads-by none (Share i) h = refl
+  reads-by none (Depot d) h = refl
+  reads-by none (Difference a d) h = refl
+  reads-by none Written h = refl
+  reads-by none (AtLeast m) h = refl
+  reads-by none ListWritten h = refl
 
 -- ---- a call
 
@@ -145,7 +146,7 @@ module _ (e : Edition) (s t : List ℕ) (c : Call) (bytes : Bytes (c .input)) wh
   abbrev laidBy : Bool → Done → Lent
   laidBy b d = cond b (lent s t (d .reply)) (lent (storeBytes (e .share) (d .after .store)) (tableOver (e .litres) (d .after .table) t) (d .reply))
 
-  -- Where the call is refused or a question, nothing is written.
+  -- Where the call is refused or only reads, nothing is written.
   pub keeps : {a : Told} {last : List ℕ} → isKept a ≡ true → step state c ≡ stays state (record { answer = a; buffer = last }) → Called e s t c a s t last
   keeps {a} {last} k h =
       record {
@@ -155,10 +156,10 @@ module _ (e : Edition) (s t : List ℕ) (c : Call) (bytes : Bytes (c .input)) wh
         bytes = bytes;
       }
 
-  pub asks : {a : Told} {last : List ℕ} → Question (c .request) → record { answer = a; buffer = last } ≡ step state c .reply → Called e s t c a s t last
+  pub asks : {a : Told} {last : List ℕ} → ReadsOnly (c .request) → record { answer = a; buffer = last } ≡ step state c .reply → Called e s t c a s t last
   asks q h =
-      let k = asks-by state c (refusal state c) (c .request) q in
-      keeps (ap (λ (r : Reply). isKept (r .answer)) h ∙ k .1) (ap₂ (λ (x : State) (r : Reply). record { after = x; reply = r }) (k .0) (sym h))
+      keeps (ap (λ (r : Reply). isKept (r .answer)) h ∙ reads-by state c (refusal state c) (c .request) q)
+      (ap₂ (λ (x : State) (r : Reply). record { after = x; reply = r }) (reading-leaves (refusal state c) state c (c .request) q) (sym h))
 
   -- Where it is done, what is done is written, and reads back.
   module _ (bs : Bytes s) (bt : Bytes t) (named : Named (256 ^ e .litres) (c .request)) where

@@ -25,7 +25,7 @@ pub record Lent : Type 0 where
   pub table : List ℕ
   pub reply : Reply
 
--- Does a call that is so answered leave the store as it was? A refused call and a question do.
+-- Does a call that is so answered leave the store as it was? A refused call and one that only reads do.
 abbrev pub isKept : Told → Bool
 isKept (refused n) = true
 isKept done = false
@@ -38,7 +38,7 @@ isKept (reached x) = true
 abbrev pub lent : List ℕ → List ℕ → Reply → Lent
 lent s t r = record { store = s; table = t; reply = r }
 
--- the bytes of the state after a step; a refused call and a question leave all as it was
+-- the bytes of the state after a step; a refused call and one that only reads leave all as it was
 abbrev pub laid : Edition → List ℕ → List ℕ → Done → Lent
 laid e s t d =
     cond (isKept (d .reply .answer)) (lent s t (d .reply))

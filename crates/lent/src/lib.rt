@@ -31,7 +31,7 @@ ghost use Rattle.held_state.specs.Held.{corrupt};
 ghost use Rattle.held_state.specs.Values.{BadKnown};
 ghost use Rattle.store.specs.declared.Request.the-variants as request;
 ghost use Rattle.store.specs.Calls.{told};
-ghost use Rattle.store.specs.Trace.{Question};
+ghost use Rattle.store.specs.Trace.{ReadsOnly};
 ghost use Rattle.store.specs.Widths.{Named, Fitting};
 ghost use Rattle.layout.specs.Layout.{placesIn, storeIn, sitesIn};
 ghost use Rattle.lent.specs.Lent.{stateIn, isOf, Freshened, Called};
@@ -168,9 +168,9 @@ pub fn propose(e: Edition, store: &mut [u8], table: &[u8], input: &[u8]) -> Answ
     Answer::Done
 }
 
-// A question, or the plan written out: store and table are only read.
+// A question, or the list written out: store and table are only read.
 pub fn look(e: Edition, store: &[u8], table: &[u8], request: Request, buffer: &mut [u8]) -> Answer
-    requires { ⌜ Fitting e × (isOf e (now store) ≡ true) × Question request ⌝ }
+    requires { ⌜ Fitting e × (isOf e (now store) ≡ true) × ReadsOnly request ⌝ }
     ensures { λ r. ⌜ ((input : List ℕ) → Bytes input → Called e (now (store .entry)) (now (table .entry)) (record { request = request; input = input; buffer = now (buffer .entry) }) (told r) (now (store .entry)) (now (table .entry)) (now (buffer .exit))) ⌝ }
 {
     let mut groups = [0u64; 64];
@@ -181,7 +181,7 @@ pub fn look(e: Edition, store: &[u8], table: &[u8], request: Request, buffer: &m
     answer(e, list, known, &groups, &shares, request, buffer)
 }
 
-// Any call: the others are questions.
+// Any call: the others only read.
 pub fn call(
     e: Edition,
     store: &mut [u8],

@@ -35,11 +35,11 @@ planBytes e p =
 abbrev pub place : ℕ → List ℕ → List ℕ → List ℕ
 place at p d = take at d ++ (p ++ drop (at + length p) d)
 
--- "Bytes after the plan are unchanged": a buffer with p at its front
+-- "Bytes after the plan are unchanged", and after a list: a buffer with p at its front
 abbrev pub onto : List ℕ → List ℕ → List ℕ
 onto p d = p ++ drop (length p) d
 
--- what a writer of these bytes answers, and what the buffer then holds; row 20, "buffer shorter than the plan", leaves it as it was
+-- what a writer of these bytes answers, and what the buffer then holds; row 20, "buffer shorter than the plan" and (document 02, b) "a buffer shorter than the list", leaves it as it was
 pub record Written (bytes out : List ℕ) (r : Wrote) (last : List ℕ) : Type 0 where
   pub answer : r ≡ cond (leb (length bytes) (length out)) (Length (length bytes)) (Refused 20)
   pub buffer : last ≡ cond (leb (length bytes) (length out)) (onto bytes out) out

@@ -2,7 +2,6 @@
 use mathlib.Core.Path.{_≡_, refl, sym, ap, _∙_, subst}
 use mathlib.Core.Bool.{Bool, true, false}
 use mathlib.Core.List.{List, []}
-use mathlib.Core.Option.{Option, none, some}
 use Prim.Native.Nat.{ℕ, _+_, _≤_, _<_}
 use native.Mathlib.Omega.{arith}
 use lib.Dec.{T}
@@ -30,31 +29,20 @@ use Rattle.held_state.specs.Held.{State, listOf, corrupt, on}
 use Rattle.held_state.specs.Values.{Stands}
 use Rattle.held_state.proofs.Intact.{intact→, good-range}
 use Rattle.store.specs.declared.Request.{Request}
-use Rattle.store.specs.declared.Request.the-variants.{Load, Change, Add, Propose, Share, Depot, Difference, Written, AtLeast}
+use Rattle.store.specs.declared.Request.the-variants.{Load, Change, Add, Propose}
 use Rattle.store.specs.declared.Decision.{Decision}
 use Rattle.store.specs.declared.Answer.{Answer}
 use Rattle.store.specs.declared.Answer.the-variants as of
 use Rattle.store.specs.Calls.{Call, Reply, same, told, refused as row, done}
 use Rattle.store.specs.Model.{Model, rowsOf, withLitres}
-use Rattle.store.specs.State.{Done, modelOf, triesZero, bare, next, stays, effectOf, settle, refusal, step}
+use Rattle.store.specs.State.{Done, modelOf, triesZero, bare, next, stays, refusal, step}
 use Rattle.store.specs.Decide.{takes}
-use Rattle.store.specs.Trace.{Question}
+use Rattle.store.specs.Trace.{ReadsOnly}
+use Rattle.store.proofs.Rules.{reading-leaves}
+use Rattle.store.proofs.Settled as settled
 use Rattle.store_calls.proofs.Steps as steps
 use Rattle.serve.specs.Serve.{decided, Served}
 use Rattle.serve.proofs.FirstPlaces.{same-front, a-table}
-
--- a question leaves the state
-question-leaves : (o : Option ℕ) (s : State) (c : Call) (q : Request) → Question q → settle o s c (effectOf s c q) .after ≡ s
-question-leaves (some n) s c q h = refl
-question-leaves none s c Load h = absurd h
-question-leaves none s c (Change i w) h = absurd h
-question-leaves none s c (Add f x w) h = absurd h
-question-leaves none s c Propose h = absurd h
-question-leaves none s c (Share i) h = refl
-question-leaves none s c (Depot d) h = refl
-question-leaves none s c (Difference a d) h = refl
-question-leaves none s c Written h = refl
-question-leaves none s c (AtLeast m) h = refl
 
 module _ (store : Store) (sites : List Site) (places : ℕ) where
   abbrev pub list : ListArray
@@ -168,11 +156,11 @@ module _ (store : Store) (sites : List Site) (places : ℕ) where
         }
 
     pub zero-served : (request : Request) → triesZero request ≡ true → Zero true → Answered (of.Refused 0) → Goes request buffer
-    zero-served request t z = refuses request 0 (λ table k h. steps.zero-step (on e store table) (call request) t (sym (z e table k h)))
+    zero-served request t z = refuses request 0 (λ table k h. settled.zero-step (on e store table) (call request) t (sym (z e table k h)))
 
-    -- ---- a question
+    -- ---- a call that only reads
 
-    pub asked : (request : Request) (a : Answer) (last : List ℕ) → Question request
+    pub asked : (request : Request) (a : Answer) (last : List ℕ) → ReadsOnly request
         → AtTable e (λ s. record { answer = told a; buffer = last } ≡ step s (call request) .reply) → Answered a → Goes request last
     asked request a last u f q =
         record {
@@ -180,7 +168,7 @@ module _ (store : Store) (sites : List Site) (places : ℕ) where
               let s = on e store table in
               let c = call request in
               kept a q last table k h ∙ ap (λ (x : Reply). stays s x) (f table k h)
-              ∙ ap (λ (x : State). record { after = x; reply = step s c .reply }) (sym (question-leaves (refusal s c) s c request u));
+              ∙ ap (λ (x : State). record { after = x; reply = step s c .reply }) (sym (reading-leaves (refusal s c) s c request u));
           few = none-go a q 512;
           room = none-go a q places;
         }
@@ -190,7 +178,7 @@ module _ (store : Store) (sites : List Site) (places : ℕ) where
     pub load-refused : (n : ℕ) → readList e places input ≡ refused n → Answered (of.Refused n) → Goes Load buffer
     load-refused n o =
         refuses Load n
-        (λ table k h. steps.load-refused (on e store table) (call Load) n refl (subst (λ (m : ℕ). readList e m input ≡ refused n) k o))
+        (λ table k h. settled.load-refused (on e store table) (call Load) n refl (subst (λ (m : ℕ). readList e m input ≡ refused n) k o))
 
     pub load-read : (l : Listing) → readList e places input ≡ passed l
         → r ≡ record { answer = of.Done; store = bare (length (l .sites)); sites = filled 512 (l .sites) noSite; n = length (l .sites) } → Goes Load buffer
@@ -200,7 +188,7 @@ module _ (store : Store) (sites : List Site) (places : ℕ) where
         let n : r .n ≡ length (l .sites) = ap (λ (x : Decision). x .n) q in
         record {
           steps = λ table k h. rw (q, take-append-seam)
-              (sym (steps.load-read (on e store table) (call Load) l refl (subst (λ (m : ℕ). readList e m input ≡ passed l) k o) .0));
+              (sym (settled.load-read (on e store table) (call Load) l refl (subst (λ (m : ℕ). readList e m input ≡ passed l) k o) .0));
           few = omega (arith, d .few, d .count);
           room = omega (arith, d .room, d .count);
         }

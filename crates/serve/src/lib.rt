@@ -28,7 +28,8 @@ ghost use Rattle.records.specs.Bytes.{Bytes};
 ghost use Rattle.held_state.specs.Held.{on, corrupt};
 ghost use Rattle.held_state.specs.Values.{BadKnown};
 ghost use Rattle.store.specs.declared.Request.the-variants as request;
-ghost use Rattle.store.specs.Trace.{Question};
+ghost use Rattle.store.specs.Trace.{ReadsOnly};
+ghost use Rattle.store.specs.Widths.{Fitting};
 ghost use Rattle.serve.specs.Serve.{Served};
 
 // What a call goes by beside the sites and the plan.
@@ -131,7 +132,7 @@ fn propose(e: Edition, store: Store, sites: [Site; 512], places: usize, input: &
     with_plan(store, plan, sites)
 }
 
-// A question: nothing changes.
+// A call that only reads: the store and the sites stay as they are.
 fn ask(
     e: Edition,
     store: Store,
@@ -140,7 +141,7 @@ fn ask(
     request: Request,
     buffer: &mut [u8],
 ) -> Decision
-    requires { ⌜ (e .share ≤ 8) × Question request ⌝ }
+    requires { ⌜ Fitting e × ReadsOnly request ⌝ }
     ensures { λ r. ⌜ ((input : List ℕ) → Served e store sites places request input (now (buffer .entry)) r (now (buffer .exit))) ⌝ }
 {
     let count = store.count;
@@ -157,7 +158,7 @@ fn ask(
     }
 }
 
-// Any call: the others are questions.
+// Any call: the others only read.
 pub fn serve(
     e: Edition,
     store: Store,
@@ -167,7 +168,7 @@ pub fn serve(
     input: &[u8],
     buffer: &mut [u8],
 ) -> Decision
-    requires { ⌜ (e .litres ≤ 4) × (e .share ≤ 8) ⌝ }
+    requires { ⌜ Fitting e ⌝ }
     ensures { λ r. ⌜ Bytes (now (input .entry)) × Served e store sites places request (now (input .entry)) (now (buffer .entry)) r (now (buffer .exit)) ⌝ }
 {
     match request {

@@ -1,4 +1,4 @@
--- T, two own sites of 4, two sites of one pair, and thresholds: histories with their replies, the rows of every call among them, and replies of wrong stores, which no model gives. Assumes nothing.
+-- T, two own sites of 4, two sites of one pair, thresholds, and lists written out: histories with their replies, the rows of every call among them, and replies of wrong stores, which no model gives. Assumes nothing.
 use mathlib.Core.Path.{_≡_, refl, sym, ap, ap₂, _∙_, subst}
 use mathlib.Core.Logic.{inl, inr, ⊎-elim}
 use mathlib.Core.Bool.{Bool, true, _&&_}
@@ -28,17 +28,17 @@ use Rattle.records.specs.Bytes.{Bytes, value, le}
 use Rattle.records.specs.Record.{records}
 use Rattle.records.specs.Values.{Plan}
 use Rattle.records.specs.Format.{edition1, planOf}
-use Rattle.records.specs.Write.{planBytes}
+use Rattle.records.specs.Write.{listBytes, planBytes}
 use Rattle.records.specs.Samples.{listT}
 use Rattle.records.proofs.Samples.{marked1}
 use Rattle.store.specs.declared.Request.{Request}
-use Rattle.store.specs.declared.Request.the-variants.{Load, Change, Add, Propose, Share, Depot, Difference, Written, AtLeast}
+use Rattle.store.specs.declared.Request.the-variants.{Load, Change, Add, Propose, Share, Depot, Difference, Written, AtLeast, ListWritten}
 use Rattle.store.specs.Calls.{Call, Reply, refused, done, shared, loaded, differ, wrote, reached}
 use Rattle.judge.specs.Check.{True}
 use Rattle.store.specs.Model.{Model, emptyModel, Proposes, turned, turn, modelRows, proposalRows}
 use Rattle.held_state.specs.Held.{State}
 use Rattle.store.specs.State.{modelOf}
-use Rattle.store.specs.Examples.{call, reply, model, plansT, callsT, repliesT, sitesT, loadedT, plannedT, listO, callsO, repliesO, sitesO, loadedO, plannedO, listP, planP, callsP, repliesP, sitesP, loadedP, plannedP, callsR, repliesR, listM, planM, callsM, repliesM, sitesM, loadedM, plannedM, thresholdsM, setsM, nth}
+use Rattle.store.specs.Examples.{call, reply, model, plansT, callsT, repliesT, sitesT, loadedT, plannedT, listO, callsO, repliesO, sitesO, loadedO, plannedO, listP, planP, callsP, repliesP, sitesP, loadedP, plannedP, callsR, repliesR, listM, planM, callsM, repliesM, sitesM, loadedM, plannedM, thresholdsM, setsM, listL, callsL, repliesL, addedL, nth, nthBuffer}
 use Rattle.store.specs.Trace.{start, then, History, Modelled, AllBytes, lastPassed}
 use Rattle.store.proofs.Plans.{true-of-rows, rows-of-true}
 use Rattle.store.proofs.OneModel.{one-model}
@@ -350,6 +350,46 @@ modelled-M =
     (then (answers-M 2 (lit< tt))
     (then (answers-M 3 (lit< tt)) (then (answers-M 4 (lit< tt)) (then (answers-M 5 (lit< tt)) (then (answers-M 6 (lit< tt)) start)))))))))
 
+-- ---- the list written out
+
+-- the model's list in a buffer
+abbrev WritesOut : Model → List ℕ → ℕ → List ℕ → Type 0
+WritesOut b buffer n after = turned b (reply (wrote n) after) ≡ turn b (call ListWritten [] buffer)
+
+empty-out : WritesOut emptyT (replicate 4 7) 4 (0x4C ∷ 0x53 ∷ 0x00 ∷ 0x00 ∷ [])
+unfolding firstRow listBytes le flatMap
+empty-out = refl
+
+empty-20 : Leaves emptyT ListWritten (replicate 3 7) 20
+unfolding firstRow listBytes le flatMap
+empty-20 = refl
+
+loaded-out : WritesOut loadedT (replicate 11 7) 10 (listT ++ (7 ∷ []))
+unfolding firstRow listBytes le flatMap
+loaded-out = refl
+
+loaded-20 : Leaves loadedT ListWritten (replicate 9 7) 20
+unfolding firstRow listBytes le flatMap
+loaded-20 = refl
+
+planned-out : WritesOut plannedT (replicate 11 7) 10 (listT ++ (7 ∷ []))
+unfolding firstRow listBytes le flatMap
+planned-out = refl
+
+adds-L : turned addedL (reply done []) ≡ turn plannedT (call (Add 0 1 513) [] [])
+unfolding firstRow
+adds-L = refl
+
+added-out : WritesOut addedL (replicate 16 7) 16 listL
+unfolding firstRow listBytes le flatMap
+added-out = refl
+
+modelled-L : Modelled edition1 2 callsL repliesL addedL
+modelled-L =
+    then empty-out
+    (then empty-20
+    (then loads-T (then loaded-out (then loaded-20 (then accepts-T (then planned-out (then adds-L (then added-out start))))))))
+
 -- ---- the store's history has these replies
 
 -- what the model answers, the store answers on any table of two places
@@ -380,7 +420,12 @@ pub history-M : (x y : Site) → (s : State) × History edition1 (x ∷ y ∷ []
 unfolding inputs all
 history-M = has-history callsM repliesM plannedM modelled-M (are-all callsM tt)
 
--- the proposal that passed last, by these calls and replies: of T its plan, of the own sites none after the change, of the pair the second
+pub history-L : (x y : Site) → (s : State) × History edition1 (x ∷ y ∷ []) callsL repliesL s × (modelOf s ≡ addedL)
+unfolding inputs all
+history-L = has-history callsL repliesL addedL modelled-L (are-all callsL tt)
+
+-- the proposal that passed last, by these calls and replies: of T its plan, of the own sites none after the change, of the pair the second, of the lists
+-- written out none after a site was added
 pub last-T : lastPassed none callsT repliesT ≡ some (plansT 0x0A)
 unfolding lastPassed
 last-T = refl
@@ -392,6 +437,10 @@ last-O = refl
 pub last-P : lastPassed none callsP repliesP ≡ some (planP 0x00 0x02)
 unfolding lastPassed
 last-P = refl
+
+pub last-L : lastPassed none callsL repliesL ≡ none
+unfolding lastPassed
+last-L = refl
 
 -- ---- what no model answers, and so no history has
 
@@ -453,3 +502,30 @@ module _ (rs : List Reply) (b : Model) (run : Modelled edition1 2 callsM rs b) w
   -- a threshold has more than 16 bits
   pub not-16-bits : (x : ℕ) → nth 8 rs ≡ reached x → x ≡ 0
   not-16-bits x h = let e : reached 0 ≡ reached x = is-M 8 ∙ h in cc
+
+module _ (rs : List Reply) (b : Model) (run : Modelled edition1 2 callsL rs b) where
+  is-L : (i : ℕ) → nth i repliesL ≡ nth i rs
+  is-L i = ap (nth i) (one-model modelled-L run .0)
+
+  buffer-L : (i : ℕ) → nthBuffer i repliesL ≡ nthBuffer i rs
+  buffer-L i = ap (nthBuffer i) (one-model modelled-L run .0)
+
+  -- "needs no plan": none is held yet
+  pub not-17 : nth 3 rs ≡ refused 17 → ⊥
+  not-17 h = let e : wrote 10 ≡ refused 17 = is-L 3 ∙ h in let z : _≡_ {A = ℕ} 0 1 = cc in omega arith
+
+  -- one site is held: a list of the table's two places, of 16 bytes, would be refused in these 11
+  pub not-places : nth 3 rs ≡ refused 20 → ⊥
+  not-places h = let e : wrote 10 ≡ refused 20 = is-L 3 ∙ h in let z : _≡_ {A = ℕ} 0 1 = cc in omega arith
+
+  -- the eleventh byte, behind the list, is as it was lent
+  pub behind-kept : nthBuffer 3 rs ≡ listT ++ (7 ∷ [])
+  behind-kept = sym (buffer-L 3)
+
+  -- so are all of a buffer that is too short
+  pub short-kept : nthBuffer 4 rs ≡ replicate 9 7
+  short-kept = sym (buffer-L 4)
+
+  -- with a plan held it is still the list, and not the plan of 21 bytes, which would be refused in these 11
+  pub not-the-plan : nth 6 rs ≡ refused 20 → ⊥
+  not-the-plan h = let e : wrote 10 ≡ refused 20 = is-L 6 ∙ h in let z : _≡_ {A = ℕ} 0 1 = cc in omega arith

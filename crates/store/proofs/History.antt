@@ -6,7 +6,7 @@ use mathlib.Core.List.{List, [], _∷_, _++_}
 use mathlib.Core.Option.{Option, none, some}
 use Prim.Native.Nat.{ℕ, _*_}
 use native.Mathlib.Omega.{arith}
-use lib.Dec.{leb, ltb}
+use lib.Dec.{leb}
 use lib.IntN.{ℤ}
 use lib.ListN.{length, getD, replicate, length-replicate}
 use Rattle.sets.specs.Set.{_⊆_, has, setOf}
@@ -22,15 +22,15 @@ use Rattle.records.specs.declared.Edition.{Edition}
 use Rattle.records.specs.Bytes.{Bytes}
 use Rattle.records.specs.Values.{Plan}
 use Rattle.records.specs.Format.{edition1, planOf}
-use Rattle.records.specs.Write.{planBytes, onto, All, Marked}
+use Rattle.records.specs.Write.{listBytes, planBytes, onto, All, Marked}
 use Rattle.records.proofs.Samples.{marked1}
 use Rattle.store.specs.declared.Request.{Request}
-use Rattle.store.specs.declared.Request.the-variants.{Load, Change, Add, Propose, Share, Depot, Difference, Written, AtLeast}
-use Rattle.store.specs.Calls.{Call, Reply, Told, refused, done, shared, loaded, differ, wrote, reached}
+use Rattle.store.specs.declared.Request.the-variants.{Load, Change, Add, Propose, Share, Depot, Difference, Written, AtLeast, ListWritten}
+use Rattle.store.specs.Calls.{Call, Reply, Told, same, putOut, refused, done, shared, loaded, differ, wrote, reached}
 use Rattle.judge.specs.Check.{True}
-use Rattle.store.specs.Model.{Model, missing, held, count, unlisted, rowsOf, modelRows, Turn, Turns, Proposes, SaysOf, Says, grantOf, settled, turned}
+use Rattle.store.specs.Model.{Model, missing, held, count, unlisted, isShort, rowsOf, modelRows, Turn, Turns, Proposes, SaysOf, Says, grantOf, settled, turned}
 use Rattle.held_state.specs.Held.{State, planHeld, listOf, corrupt}
-use Rattle.store.specs.State.{Done, modelOf, fresh, effectOf, settle, step}
+use Rattle.store.specs.State.{Done, modelOf, fresh, stays, effectOf, settle, step}
 use Rattle.store.specs.Trace.{Run, start, then, Steps, History, Modelled, AllBytes, lastPassed, planFrom, Question, Exact, SameFigures}
 use Rattle.store.proofs.Rules.{granted-not-refused}
 use Rattle.store.proofs.Steps.{Holds, holds-valid, Fed, fed, fresh-holds, row-zero-off, kept, not-zero}
@@ -84,8 +84,9 @@ module _ (s : State) (c : Call) where
       seventeen s c (Difference a d) (planHeld s) 19 (λ e. omega arith) (unlisted (modelOf s) a || unlisted (modelOf s) d) (s .store .held)
   wants Written h =
       seventeen s c Written (planHeld s) 20 (λ e. omega arith)
-      (ltb (length (c .buffer)) (length (planBytes (s .edition) (held (modelOf s .plan))))) (s .store .held)
+      (isShort c (planBytes (s .edition) (held (modelOf s .plan)))) (s .store .held)
   wants (AtLeast m) h = seventeen s c (AtLeast m) (planHeld s) 18 (λ e. omega arith) false (s .store .held)
+  wants ListWritten h = absurd h
 
   question : corrupt s ≡ false → (r : Reply) (s' : State) → Question (c .request) → Steps s c r s' → (r .answer ≡ refused 17) ↔ (s .store .held ≡ false)
   question h r s' q x =
@@ -264,6 +265,26 @@ module _ {e : Edition} (m : Marked e) {table : List Site} {calls : List Call} {r
       ∙ sym (backed-true e (b .list) last (b .plan) bytes backed l .layout .bytes-are) in
       (bytes, l, w .0 ∙ ap length same, w .1 ∙ ap (λ (z : List ℕ). onto z (c .buffer)) same)
 
+  -- the list held, or row 20
+  list-by : (c : Call) (bytes : List ℕ) (t : Bool)
+      → settle (cond t (some 20) none) s c (stays s (putOut c bytes)) ≡ stays s (cond t (same c (refused 20)) (putOut c bytes))
+  list-by c bytes true = refl
+  list-by c bytes false = refl
+
+  list-out : (c : Call) (r : Reply) (s' : State) → c .request ≡ ListWritten → Steps s c r s'
+      → let bytes : List ℕ = listBytes e (b .list) in
+      (s' ≡ s) × (r ≡ cond (isShort c bytes) (same c (refused 20)) (putOut c bytes))
+  unfolding firstRow
+  list-out c r s' k x =
+      let bytes = listBytes (s .edition) (listOf s) in
+      let d : record { after = s'; reply = r } ≡ stays s (cond (isShort c bytes) (same c (refused 20)) (putOut c bytes)) =
+      x
+      ∙ ap (λ (o : Option ℕ). settle o s c (effectOf s c (c .request))) (row-zero-off s c (final .holds .intact))
+      ∙ ap (λ (q : Request). settle (firstRow (rowsOf b c q)) s c (effectOf s c q)) k
+      ∙ list-by c bytes (isShort c bytes) in
+      let to-e = ap (λ (e : Edition). let bytes = listBytes e (b .list) in cond (isShort c bytes) (same c (refused 20)) (putOut c bytes)) (final .edition) in
+      (ap (λ (d : Done). d .after) d, ap (λ (d : Done). d .reply) d ∙ to-e)
+
   -- Demand 3: every history is as the model has it.
   pub exact : Exact e table calls replies s
   exact =
@@ -301,6 +322,7 @@ module _ {e : Edition} (m : Marked e) {table : List Site} {calls : List Call} {r
             subst (λ (z : ℕ). has y' ⊆ has z) (sym (reached-so c n r s₁ y k x a))
             (subst (λ (z : ℕ). has z ⊆ has (setOf (atLeast (network (b .list)) n) 64)) (sym (reached-so c' n' r' s₂ y' k' x' a'))
             (at-least-fewer (network (b .list)) n n' l));
+        list-written-out = list-out;
       }
 
 -- Every list of calls has a history.

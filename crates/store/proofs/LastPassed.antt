@@ -14,7 +14,7 @@ use Rattle.records.specs.Format.{planOf}
 use Rattle.records.proofs.RoundTrip.{laid-plan}
 use Rattle.judge.specs.Check.{True}
 use Rattle.store.specs.declared.Request.{Request}
-use Rattle.store.specs.declared.Request.the-variants.{Load, Change, Add, Propose, Share, Depot, Difference, Written, AtLeast}
+use Rattle.store.specs.declared.Request.the-variants.{Load, Change, Add, Propose, Share, Depot, Difference, Written, AtLeast, ListWritten}
 use Rattle.store.specs.Calls.{Call, Reply}
 use Rattle.store.specs.Model.{Model, rowsOf, Turn, Turns, Proposes, SaysOf, Says, grantOf, settled, turned, planned}
 use Rattle.store.specs.Trace.{Run, start, then, leaves, lastPassed, planFrom}
@@ -40,6 +40,7 @@ Other (Depot d) = Unit {0}
 Other (Difference a d) = Unit {0}
 Other Written = Unit {0}
 Other (AtLeast m) = Unit {0}
+Other ListWritten = Unit {0}
 
 module _ (b : Model) (c : Call) (o : Option (List ℕ)) (h : BackedIn b o) where
   turn-backed : (q : Request) (x : Option ℕ) → Other q
@@ -61,6 +62,8 @@ module _ (b : Model) (c : Call) (o : Option (List ℕ)) (h : BackedIn b o) where
   turn-backed Written (some k) n = h
   turn-backed (AtLeast m) none n = h
   turn-backed (AtLeast m) (some k) n = h
+  turn-backed ListWritten none n = h
+  turn-backed ListWritten (some k) n = h
 
   module _ (r : Reply) (b' : Model) where
     other-backed : (q : Request) → c .request ≡ q → Other q → Turns b c r b' → BackedIn b' (leaves q (c .input) (r .answer) o)
@@ -87,6 +90,7 @@ module _ (b : Model) (c : Call) (o : Option (List ℕ)) (h : BackedIn b o) where
     says-backed (Difference a d) k = other-backed (Difference a d) k tt
     says-backed Written k = other-backed Written k tt
     says-backed (AtLeast m) k = other-backed (AtLeast m) k tt
+    says-backed ListWritten k = other-backed ListWritten k tt
 
 -- the model's plan is that of the proposal that passed last
 pub run-backed : {b b' : Model} {calls : List Call} {replies : List Reply} → Run Says b calls replies b' → (o : Option (List ℕ)) → BackedIn b o

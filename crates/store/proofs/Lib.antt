@@ -6,3 +6,6 @@ pub mod History
 pub mod Examples
 pub mod LastPassed
 pub mod Widths
+pub mod Writers
+pub mod Settled
+pub mod ListRoundTrip

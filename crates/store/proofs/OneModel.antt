@@ -6,7 +6,7 @@ use mathlib.Core.Option.{Option·some-injective}
 use Prim.Native.Nat.{ℕ}
 use Rattle.records.specs.Values.{Plan}
 use Rattle.store.specs.declared.Request.{Request}
-use Rattle.store.specs.declared.Request.the-variants.{Load, Change, Add, Propose, Share, Depot, Difference, Written, AtLeast}
+use Rattle.store.specs.declared.Request.the-variants.{Load, Change, Add, Propose, Share, Depot, Difference, Written, AtLeast, ListWritten}
 use Rattle.store.specs.Calls.{Call, Reply, same, refused}
 use Rattle.store.specs.Model.{Model, Turn, Turns, Proposes, SaysOf, Says, planned}
 use Rattle.store.specs.Trace.{Run, start, then}
@@ -34,6 +34,7 @@ module _ (b : Model) (c : Call) (r r' : Reply) (b₁ b₂ : Model) where
   one-of (Difference a d) = one-turn
   one-of Written = one-turn
   one-of (AtLeast m) = one-turn
+  one-of ListWritten = one-turn
 
   pub one-says : Says b c r b₁ → Says b c r' b₂ → (r ≡ r') × (b₁ ≡ b₂)
   one-says = one-of (c .request)

@@ -12,12 +12,12 @@ use lib.Dec.{T, ltb, ltb→lt}
 use Rattle.sets.proofs.Test.{and-l, and-r}
 use Rattle.density.specs.Rows.{Row, row, firstRow, planRows}
 use Rattle.store.specs.declared.Request.{Request}
-use Rattle.store.specs.declared.Request.the-variants.{Load, Change, Add, Propose, Share, Depot, Difference, Written, AtLeast}
+use Rattle.store.specs.declared.Request.the-variants.{Load, Change, Add, Propose, Share, Depot, Difference, Written, AtLeast, ListWritten}
 use Rattle.store.specs.Calls.{Call, refused}
 use Rattle.store.specs.Model.{Model, rowsOf}
 use Rattle.held_state.specs.Held.{State}
 use Rattle.store.specs.State.{Done, firstOf, settle, effectOf}
-use Rattle.store.specs.Trace.{Question}
+use Rattle.store.specs.Trace.{ReadsOnly}
 use Rattle.store.proofs.Request.{the-type}
 
 -- ---- rows behind rows
@@ -67,25 +67,41 @@ rows-positive b c (Depot d) = tt
 rows-positive b c (Difference a d) = tt
 rows-positive b c Written = tt
 rows-positive b c (AtLeast m) = tt
+rows-positive b c ListWritten = tt
 
 pub never-row-zero : (b : Model) (c : Call) (q : Request) → firstRow (rowsOf b c q) ≡ some 0 → ⊥
 never-row-zero b c q e = omega (arith, first-positive (rowsOf b c q) (rows-positive b c q) 0 e)
 
--- ---- the requests behind the fourth are questions
+-- ---- the requests behind the fourth only read
 
 abbrev others : List ℕ
-others = 4 ∷ 5 ∷ 6 ∷ 7 ∷ 8 ∷ []
+others = 4 ∷ 5 ∷ 6 ∷ 7 ∷ 8 ∷ 9 ∷ []
 
-pub others-ask : (q : Request) → OneOf others (tagOf the-type q) → Question q
-others-ask Load h = miss others 0 tt h
-others-ask (Change i w) h = miss others 1 tt h
-others-ask (Add f d w) h = miss others 2 tt h
-others-ask Propose h = miss others 3 tt h
-others-ask (Share i) h = tt
-others-ask (Depot d) h = tt
-others-ask (Difference a d) h = tt
-others-ask Written h = tt
-others-ask (AtLeast m) h = tt
+pub others-read : (q : Request) → OneOf others (tagOf the-type q) → ReadsOnly q
+others-read Load h = miss others 0 tt h
+others-read (Change i w) h = miss others 1 tt h
+others-read (Add f d w) h = miss others 2 tt h
+others-read Propose h = miss others 3 tt h
+others-read (Share i) h = tt
+others-read (Depot d) h = tt
+others-read (Difference a d) h = tt
+others-read Written h = tt
+others-read (AtLeast m) h = tt
+others-read ListWritten h = tt
+
+-- such a call leaves the state
+pub reading-leaves : (o : Option ℕ) (s : State) (c : Call) (q : Request) → ReadsOnly q → settle o s c (effectOf s c q) .after ≡ s
+reading-leaves (some n) s c q h = refl
+reading-leaves none s c Load h = absurd h
+reading-leaves none s c (Change i w) h = absurd h
+reading-leaves none s c (Add f x w) h = absurd h
+reading-leaves none s c Propose h = absurd h
+reading-leaves none s c (Share i) h = refl
+reading-leaves none s c (Depot d) h = refl
+reading-leaves none s c (Difference a d) h = refl
+reading-leaves none s c Written h = refl
+reading-leaves none s c (AtLeast m) h = refl
+reading-leaves none s c ListWritten h = refl
 
 -- ---- answers
 
@@ -100,6 +116,7 @@ granted-not-refused s c (Depot d) n e = let z : _≡_ {A = ℕ} 0 1 = cc in omeg
 granted-not-refused s c (Difference a d) n e = let z : _≡_ {A = ℕ} 0 1 = cc in omega arith
 granted-not-refused s c Written n e = let z : _≡_ {A = ℕ} 0 1 = cc in omega arith
 granted-not-refused s c (AtLeast m) n e = let z : _≡_ {A = ℕ} 0 1 = cc in omega arith
+granted-not-refused s c ListWritten n e = let z : _≡_ {A = ℕ} 0 1 = cc in omega arith
 
 module _ (s : State) (c : Call) (d : Done) where
   pub zero-answer : (z : Bool) (o : Option ℕ) → (o ≡ some 0 → ⊥) → (d .reply .answer ≡ refused 0 → ⊥)

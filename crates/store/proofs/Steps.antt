@@ -24,10 +24,10 @@ use Rattle.records.specs.declared.Edition.{Edition}
 use Rattle.records.specs.Bytes.{Bytes}
 use Rattle.records.specs.Values.{Plan}
 use Rattle.records.specs.Format.{sitesOf, layoutRows, planOf}
-use Rattle.records.specs.Write.{planBytes, onto, Marked}
+use Rattle.records.specs.Write.{planBytes, Marked}
 use Rattle.store.specs.declared.Request.{Request}
-use Rattle.store.specs.declared.Request.the-variants.{Load, Change, Add, Propose, Share, Depot, Difference, Written, AtLeast}
-use Rattle.store.specs.Calls.{Call, Reply, same, refused, done, shared, loaded, differ, wrote, reached}
+use Rattle.store.specs.declared.Request.the-variants.{Load, Change, Add, Propose, Share, Depot, Difference, Written, AtLeast, ListWritten}
+use Rattle.store.specs.Calls.{Call, Reply, same, putOut, refused, done, shared, loaded, differ, reached}
 use Rattle.judge.specs.Check.{True}
 use Rattle.store.specs.Model.{Model, Says, listed, planned, missing, held, count, rowsOf, modelRows, proposalRows, withLitres, grantOf, settled, turned, turn}
 use Rattle.held_state.specs.Held.{State, listOf, planHeld, badPlan, corrupt, litresAt, sizeAt}
@@ -67,6 +67,7 @@ row-model b c (Depot d) = refl
 row-model b c (Difference a d) = refl
 row-model b c Written = refl
 row-model b c (AtLeast m) = refl
+row-model b c ListWritten = refl
 
 -- ---- a state without a plan
 
@@ -113,6 +114,7 @@ Fed (Depot d) s = Unit {0}
 Fed (Difference a d) s = Unit {0}
 Fed Written s = Unit {0}
 Fed (AtLeast m) s = Unit {0}
+Fed ListWritten s = Unit {0}
 
 pub fed : (q : Request) (s : List ℕ) → Bytes s → Fed q s
 fed Load s b = tt
@@ -124,6 +126,7 @@ fed (Depot d) s b = tt
 fed (Difference a d) s b = tt
 fed Written s b = tt
 fed (AtLeast m) s b = tt
+fed ListWritten s b = tt
 
 plan-clear : (e : Edition) (l : Listing) (s : List ℕ) → firstRow (proposalRows e l s) ≡ none → T (badPlan l (planOf e (length (l .sites)) s)) → ⊥
 unfolding Clear planRows
@@ -166,7 +169,7 @@ module _ (s : State) (h : Holds s) (input buffer : List ℕ) where
         places = len;
       }
 
-  -- a question
+  -- a call that is refused, or only reads
   asked : (q : Request) (r : Reply) → Says b (call q) r b → Kept s (call q) (stays s r)
   asked q r t = record { says = t; holds = h; edition = refl; places = refl }
 
@@ -279,8 +282,7 @@ module _ (s : State) (h : Holds s) (input buffer : List ℕ) where
       let c = →clear (rowsOf b (call Written) Written) e in
       let t = not-missing (s .store .held) (planHeld s) (c .0) in
       asked Written (effectOf s (call Written) Written .reply)
-      (ap (λ (p : Plan). turned b (record { answer = wrote (length (planBytes (s .edition) p)); buffer = onto (planBytes (s .edition) p) buffer }))
-      (sym (held-is (s .store .held) (planHeld s) t))
+      (ap (λ (p : Plan). turned b (putOut (call Written) (planBytes (s .edition) p))) (sym (held-is (s .store .held) (planHeld s) t))
       ∙ sym (turn-granted b (call Written) e))
   granted (AtLeast m) f e =
       let c = →clear (rowsOf b (call (AtLeast m)) (AtLeast m)) e in
@@ -288,6 +290,7 @@ module _ (s : State) (h : Holds s) (input buffer : List ℕ) where
       asked (AtLeast m) (effectOf s (call (AtLeast m)) (AtLeast m) .reply)
       (ap (λ (x : ℕ). turned b (same (call (AtLeast m)) (reached x))) (read-is (network (listOf s)) ok (planHeld s .groups) (h .plan t .groups) m)
       ∙ sym (turn-granted b (call (AtLeast m)) e))
+  granted ListWritten f e = asked ListWritten (effectOf s (call ListWritten) ListWritten .reply) (sym (turn-granted b (call ListWritten) e))
 
   -- a call that a row refuses
   refuses : Marked (s .edition) → (q : Request) (k : ℕ) → firstRow (rowsOf b (call q) q) ≡ some k → Kept s (call q) (stays s (same (call q) (refused k)))
@@ -303,6 +306,7 @@ module _ (s : State) (h : Holds s) (input buffer : List ℕ) where
   refuses m (Difference a d) k e = asked (Difference a d) _ (sym (turn-refused b (call (Difference a d)) k e))
   refuses m Written k e = asked Written _ (sym (turn-refused b (call Written) k e))
   refuses m (AtLeast n) k e = asked (AtLeast n) _ (sym (turn-refused b (call (AtLeast n)) k e))
+  refuses m ListWritten k e = asked ListWritten _ (sym (turn-refused b (call ListWritten) k e))
 
   decided : Marked (s .edition) → (q : Request) → Fed q input → (o : Option ℕ) → firstRow (rowsOf b (call q) q) ≡ o
       → Kept s (call q) (settle o s (call q) (effectOf s (call q) q))

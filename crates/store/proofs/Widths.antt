@@ -1,24 +1,26 @@
 -- A step keeps the widths of an edition: figures read are fields of that width, and those filled in are zero. Assumes nothing.
-use mathlib.Core.Path.{sym, subst}
+use mathlib.Core.Path.{_≡_, sym, subst}
 use mathlib.Core.List.{List, [], _∷_, _++_, map, append-nil}
 use mathlib.Core.Option.{Option, none, some}
 use Prim.Native.Nat.{ℕ, zero, suc, _+_, _-_, _*_, _<_, _^_}
 use native.Mathlib.Omega.{arith}
 use lib.Dec.{lit<}
-use lib.ListN.{length, getD, drop, set, replicate}
+use lib.ListN.{length, getD, drop, set, replicate, List·getD-append}
 use Rattle.density.specs.declared.Site.{Site}
 use Rattle.density.specs.Network.{noSite, siteAt}
+use Rattle.records.specs.declared.Edition.{Edition}
 use Rattle.records.specs.Bytes.{Bytes}
 use Rattle.records.specs.Record.{records}
 use Rattle.records.specs.Format.{siteSize, siteCount, siteOf, sitesOf, shareSize, groupCount, bodyOf}
 use Rattle.records.proofs.Bytes.{bytes-take, bytes-drop, field-small}
 use Rattle.store.specs.declared.Request.{Request}
-use Rattle.store.specs.declared.Request.the-variants.{Load, Change, Add, Propose, Share, Depot, Difference, Written, AtLeast}
-use Rattle.store.specs.Calls.{Call}
+use Rattle.store.specs.declared.Request.the-variants.{Load, Change, Add, Propose, Share, Depot, Difference, Written, AtLeast, ListWritten}
+use Rattle.store.specs.Calls.{Call, Reply}
 use Rattle.store.specs.Model.{withLitres}
-use Rattle.store.specs.Widths.{Named, Fits}
+use Rattle.store.specs.Widths.{Named, AllNamed, PlacesFit, Fits}
 use Rattle.held_state.specs.Held.{State, listOf}
 use Rattle.store.specs.State.{Done, refusal, effectOf, settle, step}
+use Rattle.store.specs.Trace.{Run, start, then, Steps, AllBytes}
 
 -- ---- a property of what stands at a place
 
@@ -40,6 +42,14 @@ module _ {X : Type 0} (P : X → Type 0) (d : X) where
   repeated-at b zero i = b
   repeated-at b (suc n) zero = b
   repeated-at b (suc n) (suc i) = repeated-at b n i
+
+  -- the first k, and one behind them
+  one-more-at : (l : List X) (k : ℕ) (x : X) → P x → P d → ((i : ℕ) → i < k → P (getD l i d)) → (i : ℕ) → i < k + 1 → P (getD (set l k x) i d)
+  one-more-at [] k x a b h i m = b
+  one-more-at (y ∷ l) zero x a b h zero m = a
+  one-more-at (y ∷ l) zero x a b h (suc i) m = absurd (let z : ⊥ = omega arith in z)
+  one-more-at (y ∷ l) (suc k) x a b h zero m = h zero (omega arith)
+  one-more-at (y ∷ l) (suc k) x a b h (suc i) m = one-more-at l k x a b (λ j n. h (suc j) (omega arith)) i (omega arith)
 
   filled-at : P d → (l : List X) (n i : ℕ) → P (getD l i d) → P (getD (l ++ replicate n d) i d)
   filled-at b [] n i a = repeated-at b n i
@@ -106,6 +116,7 @@ module _ (m : ℕ) (s : State) (h : Fits m s) (c : Call) (bytes : Bytes (c .inpu
   effect-fits (Difference a d) n = h
   effect-fits Written n = h
   effect-fits (AtLeast m) n = h
+  effect-fits ListWritten n = h
 
   settle-fits : (o : Option ℕ) (d : Done) → Fits m (d .after) → Fits m (settle o s c d .after)
   settle-fits none d f = f
@@ -114,3 +125,57 @@ module _ (m : ℕ) (s : State) (h : Fits m s) (c : Call) (bytes : Bytes (c .inpu
   -- After a step the widths are kept.
   pub step-fits : Named (256 ^ s .edition .litres) (c .request) → Fits m (step s c .after)
   step-fits n = settle-fits (refusal s c) (effectOf s c (c .request)) (effect-fits (c .request) n)
+
+-- ---- the sites held
+
+-- their litres have the width of the edition
+pub record SitesFit (e : Edition) (s : State) : Type 0 where
+  pub edition : s .edition ≡ e
+  pub litres : PlacesFit (s .store .count) s
+
+module _ {e : Edition} (s : State) (h : SitesFit e s) (c : Call) (bytes : Bytes (c .input)) where
+  abbrev Wide : Site → Type 0
+  Wide x = x .litres < 256 ^ s .edition .litres
+
+  effect-sites : (q : Request) → Named (256 ^ s .edition .litres) q → SitesFit e (effectOf s c q .after)
+  effect-sites Load n =
+      let w = s .edition .litres in
+      let sites = sitesOf (s .edition) (c .input) in
+      record {
+        edition = h .edition;
+        litres = λ i l.
+            subst Wide (sym (List·getD-append sites (drop (length sites) (s .table)) noSite i l))
+            (read-at Wide noSite (siteOf w) (λ r b. field-small r 4 w b) (below w) (siteSize (s .edition)) (siteCount (c .input)) (drop 4 (c .input))
+            (bytes-drop 4 (c .input) bytes) i);
+      }
+  effect-sites (Change j w) n =
+      record { edition = h .edition; litres = λ i l. set-at Wide noSite (s .table) j i (withLitres (siteAt (listOf s) j) w) n (h .litres i l) }
+  effect-sites (Add f d w) n =
+      record {
+        edition = h .edition;
+        litres = one-more-at Wide noSite (s .table) (s .store .count) (record { first = f; second = d; litres = w }) n (below (s .edition .litres)) (h .litres);
+      }
+  effect-sites Propose n = record { edition = h .edition; litres = h .litres }
+  effect-sites (Share i) n = h
+  effect-sites (Depot d) n = h
+  effect-sites (Difference a d) n = h
+  effect-sites Written n = h
+  effect-sites (AtLeast m) n = h
+  effect-sites ListWritten n = h
+
+  settle-sites : (o : Option ℕ) (d : Done) → SitesFit e (d .after) → SitesFit e (settle o s c d .after)
+  settle-sites none d f = f
+  settle-sites (some n) d f = h
+
+  step-sites : Named (256 ^ e .litres) (c .request) → SitesFit e (step s c .after)
+  step-sites n =
+      settle-sites (refusal s c) (effectOf s c (c .request))
+      (effect-sites (c .request) (subst (λ (e : Edition). Named (256 ^ e .litres) (c .request)) (sym (h .edition)) n))
+
+-- along every run whose litres have that width
+pub run-sites : {e : Edition} {s s' : State} {calls : List Call} {replies : List Reply} → Run Steps s calls replies s' → SitesFit e s → AllBytes calls
+    → AllNamed (256 ^ e .litres) calls → SitesFit e s'
+unfolding AllBytes
+run-sites start h b n = h
+run-sites {e} (then {s = s} {c = c} x xs) h b n =
+    run-sites xs (subst (λ (d : Done). SitesFit e (d .after)) (sym x) (step-sites s h c (b .0) (n .0))) (b .1) (n .1)

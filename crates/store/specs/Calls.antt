@@ -2,6 +2,8 @@
 use mathlib.Core.List.{List}
 use Prim.Native.Nat.{ℕ}
 use lib.IntN.{ℤ}
+use lib.ListN.{length}
+use Rattle.records.specs.Write.{onto}
 use Rattle.store.specs.declared.Request.{Request}
 use Rattle.store.specs.declared.Answer.{Answer}
 use Rattle.store.specs.declared.Answer.the-variants as of
@@ -41,3 +43,7 @@ pub record Reply : Type 0 where
 -- an answer that leaves the buffer as it was
 abbrev pub same : Call → Told → Reply
 same c a = record { answer = a; buffer = c .buffer }
+
+-- bytes put to the front of the buffer; document 02, b: "every writer answers the length it wrote"
+abbrev pub putOut : Call → List ℕ → Reply
+putOut c bytes = record { answer = wrote (length bytes); buffer = onto bytes (c .buffer) }

@@ -1,5 +1,5 @@
 -- Document 01: histories of T, of two own sites of 4 and of two sites of one pair on a table of two places, with their replies, the rows of every call
--- among them. Document 02, a: a history of thresholds.
+-- among them. Document 02, a: a history of thresholds; b: one of lists written out.
 use mathlib.Core.List.{List, [], _∷_, _++_, map}
 use mathlib.Core.Option.{Option, none, some}
 use Prim.Native.Nat.{ℕ}
@@ -13,7 +13,7 @@ use Rattle.records.specs.Format.{edition1}
 use Rattle.records.specs.Samples.{listT}
 use Rattle.judge.specs.Refusals.{group, share}
 use Rattle.store.specs.declared.Request.{Request}
-use Rattle.store.specs.declared.Request.the-variants.{Load, Change, Add, Propose, Share, Depot, Difference, Written, AtLeast}
+use Rattle.store.specs.declared.Request.the-variants.{Load, Change, Add, Propose, Share, Depot, Difference, Written, AtLeast, ListWritten}
 use Rattle.store.specs.Calls.{Call, Reply, Told, refused, done, shared, loaded, differ, wrote, reached}
 use Rattle.store.specs.Model.{Model}
 
@@ -199,6 +199,45 @@ loadedM = model (sitesM .sites) none
 abbrev pub plannedM : Model
 plannedM = model (sitesM .sites) (some (record { groups = 3 ∷ 4 ∷ []; shares = 9 ∷ 0 ∷ [] }))
 
--- the answer to the i-th call
+-- ---- the list written out: of no sites, of T without a plan and with one, and of T and a site more; each in a buffer that is filled with 7
+
+-- T and (0,1) of 513
+abbrev pub listL : List ℕ
+listL =
+    0x4C ∷ 0x53 ∷ 0x02 ∷ 0x00 ∷ 0x53 ∷ 0x54 ∷ 0x00 ∷ 0x01 ∷ 0x0A ∷ 0x00 ∷ 0x53 ∷ 0x54 ∷ 0x00 ∷ 0x01 ∷ 0x01 ∷ 0x02 ∷ []
+
+abbrev pub callsL : List Call
+callsL =
+    call ListWritten [] (replicate 4 7)
+    ∷ call ListWritten [] (replicate 3 7)
+    ∷ call Load listT []
+    ∷ call ListWritten [] (replicate 11 7)
+    ∷ call ListWritten [] (replicate 9 7)
+    ∷ call Propose (plansT 0x0A) []
+    ∷ call ListWritten [] (replicate 11 7)
+    ∷ call (Add 0 1 513) [] []
+    ∷ call ListWritten [] (replicate 16 7)
+    ∷ []
+
+abbrev pub repliesL : List Reply
+repliesL =
+    reply (wrote 4) (0x4C ∷ 0x53 ∷ 0x00 ∷ 0x00 ∷ [])
+    ∷ reply (refused 20) (replicate 3 7)
+    ∷ reply done []
+    ∷ reply (wrote 10) (listT ++ (7 ∷ []))
+    ∷ reply (refused 20) (replicate 9 7)
+    ∷ reply done []
+    ∷ reply (wrote 10) (listT ++ (7 ∷ []))
+    ∷ reply done []
+    ∷ reply (wrote 16) listL
+    ∷ []
+
+abbrev pub addedL : Model
+addedL = model (pair 0 1 10 ∷ pair 0 1 513 ∷ []) none
+
+-- the answer to the i-th call, and its buffer
 abbrev pub nth : ℕ → List Reply → Told
 nth i rs = getD rs i (reply done []) .answer
+
+abbrev pub nthBuffer : ℕ → List Reply → List ℕ
+nthBuffer i rs = getD rs i (reply done []) .buffer

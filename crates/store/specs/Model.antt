@@ -15,11 +15,11 @@ use Rattle.density.specs.Figures.{depotLitres, depotSize, siteWhole, difference
 use Rattle.records.specs.declared.Edition.{Edition}
 use Rattle.records.specs.Values.{Plan}
 use Rattle.records.specs.Format.{listRows, sitesOf, layoutRows, planOf}
-use Rattle.records.specs.Write.{planBytes, onto}
+use Rattle.records.specs.Write.{listBytes, planBytes}
 use Rattle.judge.specs.Check.{True}
 use Rattle.store.specs.declared.Request.{Request}
-use Rattle.store.specs.declared.Request.the-variants.{Load, Change, Add, Propose, Share, Depot, Difference, Written, AtLeast}
-use Rattle.store.specs.Calls.{Call, Reply, same, refused, done, shared, loaded, differ, wrote, reached}
+use Rattle.store.specs.declared.Request.the-variants.{Load, Change, Add, Propose, Share, Depot, Difference, Written, AtLeast, ListWritten}
+use Rattle.store.specs.Calls.{Call, Reply, same, putOut, refused, done, shared, loaded, differ, reached}
 
 -- "It has a list, at first without sites, and a plan, at first none"; it "is fed the number of table places".
 pub record Model : Type 0 where
@@ -61,6 +61,10 @@ proposalRows e l bytes =
     layoutRows e (length (l .sites)) bytes
     ++ planRows (network l) (planOf e (length (l .sites)) bytes .groups) (planOf e (length (l .sites)) bytes .shares)
 
+-- row 20, "buffer shorter than the plan"; document 02, b: "Row 20 also covers a buffer shorter than the list"
+abbrev pub isShort : Call → List ℕ → Bool
+isShort c bytes = ltb (length (c .buffer)) (length bytes)
+
 -- the rows that each call tries
 abbrev pub rowsOf : Model → Call → Request → List Row
 rowsOf b c Load = listRows (b .edition) (b .places) (c .input)
@@ -70,8 +74,9 @@ rowsOf b c Propose = proposalRows (b .edition) (b .list) (c .input)
 rowsOf b c (Share i) = row 17 (missing (b .plan)) ∷ row 18 (leb (count b) i) ∷ []
 rowsOf b c (Depot d) = row 17 (missing (b .plan)) ∷ row 19 (unlisted b d) ∷ []
 rowsOf b c (Difference a d) = row 17 (missing (b .plan)) ∷ row 19 (unlisted b a || unlisted b d) ∷ []
-rowsOf b c Written = row 17 (missing (b .plan)) ∷ row 20 (ltb (length (c .buffer)) (length (planBytes (b .edition) (held (b .plan))))) ∷ []
+rowsOf b c Written = row 17 (missing (b .plan)) ∷ row 20 (isShort c (planBytes (b .edition) (held (b .plan)))) ∷ []
 rowsOf b c (AtLeast m) = row 17 (missing (b .plan)) ∷ []
+rowsOf b c ListWritten = row 20 (isShort c (listBytes (b .edition) (b .list))) ∷ []
 
 abbrev pub modelRows : Model → Call → List Row
 modelRows b c = rowsOf b c (c .request)
@@ -90,7 +95,7 @@ turned b r = record { after = b; reply = r }
 
 -- What is granted where no row applies (a proposal is not judged by it but by `Proposes`, below).
 -- "w × q, W, q and the difference with its divisor follow from the definition on its list alone"; s is read from its plan. Document 02, a: "the set that follows from the
--- definition on its list alone".
+-- definition on its list alone"; b: "its list and the length".
 abbrev pub grantOf : Model → Call → Request → Turn
 grantOf b c Load = turned (listed b (sitesOf (b .edition) (c .input))) (same c done)
 grantOf b c (Change i w) = turned (listed b (set (b .list .sites) i (withLitres (siteAt (b .list) i) w))) (same c done)
@@ -99,12 +104,11 @@ grantOf b c Propose = turned (planned b (planOf (b .edition) (count b) (c .input
 grantOf b c (Share i) = turned b (same c (shared (getD (held (b .plan) .shares) i 0) (siteWhole (network (b .list)) i)))
 grantOf b c (Depot d) = turned b (same c (loaded (depotLitres (network (b .list)) d) (depotSize (network (b .list)) d)))
 grantOf b c (Difference a d) = turned b (same c (differ (difference (network (b .list)) a d) (divisor (network (b .list)) a d)))
-grantOf b c Written =
-    let bytes = planBytes (b .edition) (held (b .plan)) in
-    turned b (record { answer = wrote (length bytes); buffer = onto bytes (c .buffer) })
+grantOf b c Written = turned b (putOut c (planBytes (b .edition) (held (b .plan))))
 grantOf b c (AtLeast m) = turned b (same c (reached (setOf (atLeast (network (b .list)) m) 64)))
+grantOf b c ListWritten = turned b (putOut c (listBytes (b .edition) (b .list)))
 
--- "A refused call or a question leaves the book as it is, and a refused call leaves its buffer so too."
+-- "A refused call or a question leaves the book as it is, and a refused call leaves its buffer so too." Document 02, b: asked for its list it "stays as it is".
 abbrev pub settled : Option ℕ → Model → Call → Turn → Turn
 settled (some n) b c t = turned b (same c (refused n))
 settled none b c t = t
@@ -136,6 +140,7 @@ SaysOf (Depot d) = Turns
 SaysOf (Difference a d) = Turns
 SaysOf Written = Turns
 SaysOf (AtLeast m) = Turns
+SaysOf ListWritten = Turns
 
 abbrev pub Says : Model → Call → Reply → Model → Type 0
 Says b c r b' = SaysOf (c .request) b c r b'

@@ -1,4 +1,5 @@
 -- Document 01, "Entry points", the desk: what each call does at any desk and table.
+use mathlib.Core.Path.{_≡_}
 use mathlib.Core.Bool.{Bool, true, false, cond, _&&_}
 use mathlib.Core.List.{List, _++_}
 use mathlib.Core.Option.{Option, none, some}
@@ -14,12 +15,12 @@ use Rattle.records.specs.declared.Edition.{Edition}
 use Rattle.records.specs.Values.{Plan}
 use Rattle.records.specs.Answer.{filled}
 use Rattle.records.specs.Format.{sitesOf, layoutRows, planOf}
-use Rattle.records.specs.Write.{planBytes, onto}
+use Rattle.records.specs.Write.{listBytes, planBytes}
 use Rattle.held_state.specs.declared.Store.{Store}
 use Rattle.held_state.specs.Held.{State, listOf, planHeld, corrupt, litresAt, sizeAt}
 use Rattle.store.specs.declared.Request.{Request}
-use Rattle.store.specs.declared.Request.the-variants.{Load, Change, Add, Propose, Share, Depot, Difference, Written, AtLeast}
-use Rattle.store.specs.Calls.{Call, Reply, same, refused, done, shared, loaded, differ, wrote, reached}
+use Rattle.store.specs.declared.Request.the-variants.{Load, Change, Add, Propose, Share, Depot, Difference, Written, AtLeast, ListWritten}
+use Rattle.store.specs.Calls.{Call, Reply, same, putOut, refused, done, shared, loaded, differ, reached}
 use Rattle.store.specs.Model.{Model, count, rowsOf, withLitres}
 
 -- the list held, and the plan held or the lack of one
@@ -38,6 +39,7 @@ triesZero (Depot d) = true
 triesZero (Difference a d) = true
 triesZero Written = true
 triesZero (AtLeast m) = true
+triesZero ListWritten = true
 
 -- Propose: the first of rows 12 to 16 that applies to a plan for the held list
 abbrev pub planRow : Model → Plan → Option ℕ
@@ -58,6 +60,7 @@ rowFor b c (Depot d) = firstRow (rowsOf b c (Depot d))
 rowFor b c (Difference a d) = firstRow (rowsOf b c (Difference a d))
 rowFor b c Written = firstRow (rowsOf b c Written)
 rowFor b c (AtLeast m) = firstRow (rowsOf b c (AtLeast m))
+rowFor b c ListWritten = firstRow (rowsOf b c ListWritten)
 
 abbrev pub refusal : State → Call → Option ℕ
 refusal s c = cond (triesZero (c .request) && corrupt s) (some 0) (rowFor (modelOf s) c (c .request))
@@ -85,8 +88,29 @@ next s store table r = record { after = record { edition = s .edition; store = s
 abbrev pub stays : State → Reply → Done
 stays s r = record { after = s; reply = r }
 
+-- the plan held and the list held, as bytes
+abbrev pub planOut : State → List ℕ
+planOut s = planBytes (s .edition) (planHeld s)
+
+abbrev pub listOut : State → List ℕ
+listOut s = listBytes (s .edition) (listOf s)
+
+-- what a call puts out that writes into its buffer; no other call puts out anything
+abbrev pub Output : State → Request → List ℕ → Type 0
+Output s Load out = ⊥
+Output s (Change i w) out = ⊥
+Output s (Add f d w) out = ⊥
+Output s Propose out = ⊥
+Output s (Share i) out = ⊥
+Output s (Depot d) out = ⊥
+Output s (Difference a d) out = ⊥
+Output s Written out = out ≡ planOut s
+Output s (AtLeast m) out = ⊥
+Output s ListWritten out = out ≡ listOut s
+
 -- What a call does that no row refuses. "success drops the plan, even if no figure differs, and sets its groups and share places to zero."
--- "Table places beyond the sites keep their content." Document 02, a: "reading ends at the first group below the mark".
+-- "Table places beyond the sites keep their content." Document 02, a: "reading ends at the first group below the mark"; b: "puts the
+-- sites into a buffer as a list record by record".
 abbrev pub effectOf : State → Call → Request → Done
 effectOf s c Load =
     let sites = sitesOf (s .edition) (c .input) in
@@ -99,10 +123,9 @@ effectOf s c (Share i) = stays s (same c (shared (getD (s .store .shares) i 0) (
 effectOf s c (Depot d) = stays s (same c (loaded (litresAt s d) (sizeAt s d)))
 effectOf s c (Difference a d) =
     stays s (same c (differ (differenceOf (litresAt s a) (sizeAt s a) (litresAt s d) (sizeAt s d)) (sizeAt s a * sizeAt s d)))
-effectOf s c Written =
-    let bytes = planBytes (s .edition) (planHeld s) in
-    stays s (record { answer = wrote (length bytes); buffer = onto bytes (c .buffer) })
+effectOf s c Written = stays s (putOut c (planOut s))
 effectOf s c (AtLeast m) = stays s (same c (reached (setOf (depotsRead (network (listOf s)) (planHeld s .groups) m) 64)))
+effectOf s c ListWritten = stays s (putOut c (listOut s))
 
 -- "A refusal is its number and no other figure, and every buffer, table and desk remains as before, its held plan included."
 abbrev pub settle : Option ℕ → State → Call → Done → Done

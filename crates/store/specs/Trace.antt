@@ -6,7 +6,7 @@ use mathlib.Core.Logic.{_↔_}
 use mathlib.Core.Option.{Option, none, some}
 use Prim.Native.Nat.{ℕ, _-_, _*_, _≤_}
 use lib.IntN.{ℤ}
-use lib.ListN.{length, getD, drop, replicate}
+use lib.ListN.{length, getD, take, drop, replicate}
 use Rattle.sets.specs.Set.{_⊆_, has, setOf}
 use Rattle.density.specs.declared.Site.{Site}
 use Rattle.density.specs.Network.{network}
@@ -16,13 +16,14 @@ use Rattle.density.specs.Figures.{differenceOf, atLeastBy, everyGroup}
 use Rattle.records.specs.declared.Edition.{Edition}
 use Rattle.records.specs.Bytes.{Bytes}
 use Rattle.records.specs.Values.{Plan}
-use Rattle.records.specs.Format.{planOf}
-use Rattle.records.specs.Write.{onto, All}
+use Rattle.records.specs.Outcome.{passed}
+use Rattle.records.specs.Format.{readList, planOf}
+use Rattle.records.specs.Write.{listBytes, onto, All}
 use Rattle.store.specs.declared.Request.{Request}
-use Rattle.store.specs.declared.Request.the-variants.{Load, Change, Add, Propose, Share, Depot, Difference, Written, AtLeast}
-use Rattle.store.specs.Calls.{Call, Reply, Told, refused, done, shared, loaded, differ, wrote, reached}
+use Rattle.store.specs.declared.Request.the-variants.{Load, Change, Add, Propose, Share, Depot, Difference, Written, AtLeast, ListWritten}
+use Rattle.store.specs.Calls.{Call, Reply, Told, same, putOut, refused, done, shared, loaded, differ, wrote, reached}
 use Rattle.judge.specs.Check.{True}
-use Rattle.store.specs.Model.{Model, emptyModel, count, Says}
+use Rattle.store.specs.Model.{Model, emptyModel, count, isShort, Says}
 use Rattle.held_state.specs.Held.{State}
 use Rattle.store.specs.State.{modelOf, fresh, step}
 
@@ -69,6 +70,7 @@ leaves (Depot d) s a o = o
 leaves (Difference d e) s a o = o
 leaves Written s a o = o
 leaves (AtLeast m) s a o = o
+leaves ListWritten s a o = o
 
 unfoldable pub lastPassed : Option (List ℕ) → List Call → List Reply → Option (List ℕ)
 lastPassed o [] rs = o
@@ -91,6 +93,20 @@ Question (Depot d) = Unit {0}
 Question (Difference a d) = Unit {0}
 Question Written = Unit {0}
 Question (AtLeast m) = Unit {0}
+Question ListWritten = ⊥
+
+-- the calls that leave the store and the table as they are: these, and the list written out, which "needs no plan" (document 02, b)
+abbrev pub ReadsOnly : Request → Type 0
+ReadsOnly Load = Question Load
+ReadsOnly (Change i w) = Question (Change i w)
+ReadsOnly (Add f s w) = Question (Add f s w)
+ReadsOnly Propose = Question Propose
+ReadsOnly (Share i) = Question (Share i)
+ReadsOnly (Depot d) = Question (Depot d)
+ReadsOnly (Difference a d) = Question (Difference a d)
+ReadsOnly Written = Question Written
+ReadsOnly (AtLeast m) = Question (AtLeast m)
+ReadsOnly ListWritten = Unit {0}
 
 -- "all zero" where no plan is held, and "group and share places beyond it become zero" where one is
 pub record Tidy (s : State) : Type 0 where
@@ -149,6 +165,23 @@ pub record Exact (e : Edition) (table : List Site) (calls : List Call) (replies 
       → r .answer ≡ reached (setOf (network (modelOf s .list) .listed) 64)
   pub higher-gives-fewer : (c c' : Call) (m m' : ℕ) (r r' : Reply) (s₁ s₂ : State) (x x' : ℕ) → c .request ≡ AtLeast m → c' .request ≡ AtLeast m'
       → Steps s c r s₁ → Steps s c' r' s₂ → r .answer ≡ reached x → r' .answer ≡ reached x' → m ≤ m' → has x' ⊆ has x
+  -- document 02, b: "the book gives row 20, or its list and the length, and stays as it is"; what is written out is the list held
+  pub list-written-out : (c : Call) (r : Reply) (s' : State) → c .request ≡ ListWritten → Steps s c r s'
+      → let bytes : List ℕ = listBytes e (modelOf s .list) in
+      (s' ≡ s) × (r ≡ cond (isShort c bytes) (same c (refused 20)) (putOut c bytes))
+
+-- Document 02, b, at one state.
+pub record ListRoundTrip (s : State) : Type 0 where
+  -- "Reading its output yields the same sites"
+  pub reads : (c : Call) (r : Reply) (s' : State) (n places : ℕ) → c .request ≡ ListWritten → Steps s c r s' → r .answer ≡ wrote n
+      → count (modelOf s) ≤ places → readList (s .edition) places (take n (r .buffer)) ≡ passed (modelOf s .list)
+  -- loaded into a store of the edition with room, a fresh one or any other, it leaves a model with an equal list
+  pub loads : (c c' : Call) (r r' : Reply) (s' t t' : State) (n : ℕ) → c .request ≡ ListWritten → Steps s c r s' → r .answer ≡ wrote n
+      → t .edition ≡ s .edition → count (modelOf s) ≤ length (t .table) → c' .request ≡ Load → c' .input ≡ take n (r .buffer) → Steps t c' r' t'
+      → (r' .answer ≡ done) × (modelOf t' .list ≡ modelOf s .list)
+  -- "writing what was read yields the same bytes": a list that is loaded is written out so
+  pub again : (c c' : Call) (r r' : Reply) (s' t : State) (n : ℕ) → c .request ≡ Load → Bytes (c .input) → Steps s c r s' → r .answer ≡ done
+      → c' .request ≡ ListWritten → Steps s' c' r' t → r' .answer ≡ wrote n → (n ≡ length (c .input)) × (r' .buffer ≡ onto (c .input) (c' .buffer))
 
 -- "Two desks hold the same list if their books' lists are equal": each W, q, w × q, difference and set of depots that both answer is then the same,
 -- whatever their histories; s is that of each one's plan.

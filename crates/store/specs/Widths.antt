@@ -1,11 +1,14 @@
 -- Document 01, "Entry points", the desk: widths of figures. "Litres in a change or an added site are a 16-bit figure".
+use mathlib.Core.List.{List}
 use Prim.Native.Nat.{ℕ, _<_, _≤_, _^_}
 use lib.ListN.{getD}
 use Rattle.density.specs.Network.{noSite}
 use Rattle.records.specs.declared.Edition.{Edition}
+use Rattle.records.specs.Write.{All}
 use Rattle.held_state.specs.Held.{State}
 use Rattle.store.specs.declared.Request.{Request}
-use Rattle.store.specs.declared.Request.the-variants.{Load, Change, Add, Propose, Share, Depot, Difference, Written, AtLeast}
+use Rattle.store.specs.declared.Request.the-variants.{Load, Change, Add, Propose, Share, Depot, Difference, Written, AtLeast, ListWritten}
+use Rattle.store.specs.Calls.{Call}
 
 -- the litres that a request puts into the table are below a bound; a threshold is put nowhere
 abbrev pub Named : ℕ → Request → Type 0
@@ -18,12 +21,21 @@ Named b (Depot d) = Unit {0}
 Named b (Difference a d) = Unit {0}
 Named b Written = Unit {0}
 Named b (AtLeast m) = Unit {0}
+Named b ListWritten = Unit {0}
+
+-- the same of each of several calls
+abbrev pub AllNamed : ℕ → List Call → Type 0
+AllNamed b calls = All (λ (c : Call). Named b (c .request)) calls
 
 -- litres of at most 32 bits and shares of at most 64, as a site and a plan by value have them
 abbrev pub Fitting : Edition → Type 0
 Fitting e = (e .litres ≤ 4) × (e .share ≤ 8)
 
--- the litres of the first m places, and all shares, have the widths of the edition
+-- the litres of the first m places have the width of the edition
+abbrev pub PlacesFit : ℕ → State → Type 0
+PlacesFit m s = (i : ℕ) → i < m → getD (s .table) i noSite .litres < 256 ^ s .edition .litres
+
+-- so they have, and all shares theirs
 pub record Fits (m : ℕ) (s : State) : Type 0 where
-  pub litres : (i : ℕ) → i < m → getD (s .table) i noSite .litres < 256 ^ s .edition .litres
+  pub litres : PlacesFit m s
   pub shares : (i : ℕ) → getD (s .store .shares) i 0 < 256 ^ s .edition .share

@@ -4,7 +4,7 @@ use held_state::Store;
 
 pub mod decide;
 
-// What a call asks for. The number of `AtLeast` is a threshold in litres per depot (document 02: a mark).
+// What a call asks for. The number of `AtLeast` is a threshold in litres per depot (document 02: a mark). `Written` is the plan written out, `ListWritten` the list (document 02, b).
 pub enum Request {
     Load,
     Change(usize, u32),
@@ -15,6 +15,7 @@ pub enum Request {
     Difference(u8, u8),
     Written,
     AtLeast(u32),
+    ListWritten,
 }
 
 // What a call answers.

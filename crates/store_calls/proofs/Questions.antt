@@ -1,11 +1,11 @@
--- The answers to questions: each is the step's, at a state that the values stand for. Assumes nothing.
+-- The answers to questions, and to the call for the list written out: each is the step's, at a state that the values stand for. Assumes nothing.
 use mathlib.Core.Path.{_≡_, refl, sym, ap, ap₂, _∙_}
 use mathlib.Core.Bool.{Bool, true, false, cond, not, _||_}
 use mathlib.Core.List.{List}
 use mathlib.Core.Option.{none, some}
 use Prim.Native.Nat.{ℕ, _*_}
 use borrow.Author.Tests.{leb-true, leb-false, lt-ltb, le-ltb}
-use lib.Dec.{leb, ltb}
+use lib.Dec.{leb}
 use lib.ListN.{length, getD, take}
 use lib.Seq.{getD-take}
 use Rattle.sets.specs.Set.{has, setOf}
@@ -19,7 +19,7 @@ use Rattle.records.specs.declared.PlanArray.{PlanArray}
 use Rattle.records.specs.Values.{Plan, listing, planIn}
 use Rattle.records.specs.declared.Wrote.{Wrote}
 use Rattle.records.specs.declared.Wrote.the-variants as wrote
-use Rattle.records.specs.Write.{planBytes, onto, Written as Writes}
+use Rattle.records.specs.Write.{listBytes, planBytes, onto, Written as Writes}
 use Rattle.tables.specs.declared.Form.{Form}
 use Rattle.tables.specs.Tables.{net, groupsIn, lentPlan, Kept}
 use Rattle.held_state.specs.declared.Summary.{Summary}
@@ -28,37 +28,24 @@ use Rattle.held_state.specs.Values.{Stands, heldLitres, heldSize}
 use Rattle.held_state.proofs.Figures.{listed-has}
 use Rattle.held_state.proofs.Standing.{stands-list, stands-plan}
 use Rattle.store.specs.declared.Request.{Request}
-use Rattle.store.specs.declared.Request.the-variants.{Load, Change, Add, Propose, Share, Depot, Difference, Written, AtLeast}
+use Rattle.store.specs.declared.Request.the-variants.{Load, Change, Add, Propose, Share, Depot, Difference, Written, AtLeast, ListWritten}
 use Rattle.store.specs.declared.Answer.{Answer}
 use Rattle.store.specs.declared.Answer.the-variants as of
-use Rattle.store.specs.Calls.{Call, same, told, refused}
-use Rattle.store.specs.Model.{Model}
+use Rattle.store.specs.Calls.{Call, same, putOut, told, refused}
+use Rattle.store.specs.Model.{Model, isShort}
 use Rattle.store.specs.State.{Done, modelOf, triesZero, rowFor, refusal, effectOf, step}
-use Rattle.store.specs.Trace.{Question}
-use Rattle.store_calls.specs.Told.{ToldWritten}
-use Rattle.store_calls.proofs.Steps.{refused-step, granted-step, zero-step, row-is, held-count}
+use Rattle.store.specs.Trace.{Question, ReadsOnly}
+use Rattle.store_calls.specs.Told.{wroteTold}
+use Rattle.store.proofs.Settled.{refused-step, granted-step, zero-step, row-is}
+use Rattle.store_calls.proofs.Steps.{held-count}
 
 -- the listed depots of the tables are those of the list
 pub kept-has : {list : ListArray} {plan : PlanArray} {f : Form} {ws : List ℕ} → Kept list plan f ws → (d : ℕ) → has (f .listed) d ≡ net list .listed d
 kept-has {list} k d = ap (λ (x : ℕ). has x d) (k .listed) ∙ listed-has list (k .ready .counted .range) d
 
--- ---- what a writer answers
-
-abbrev answered : Wrote → Answer
-answered (wrote.Length n) = of.Length n
-answered (wrote.Refused n) = of.Refused n
-
-lifted : (t : Bool) (n : ℕ) → answered (cond t (wrote.Length n) (wrote.Refused 20)) ≡ cond t (of.Length n) (of.Refused 20)
-lifted true n = refl
-lifted false n = refl
-
-pub wrote-out : {bytes out last : List ℕ} {r a : Wrote} → Writes bytes out r last → r ≡ a → ToldWritten bytes out (answered a) last
-wrote-out {bytes} {out} w h =
-    record { answer = ap answered (sym h ∙ w .answer) ∙ lifted (leb (length bytes) (length out)) (length bytes); buffer = w .buffer }
-
 -- ---- row 0, and no plan
 
-tries-zero : (q : Request) → Question q → triesZero q ≡ true
+tries-zero : (q : Request) → ReadsOnly q → triesZero q ≡ true
 tries-zero Load h = absurd h
 tries-zero (Change i w) h = absurd h
 tries-zero (Add f d w) h = absurd h
@@ -68,6 +55,7 @@ tries-zero (Depot d) h = refl
 tries-zero (Difference a d) h = refl
 tries-zero Written h = refl
 tries-zero (AtLeast m) h = refl
+tries-zero ListWritten h = refl
 
 no-plan : (b : Model) (c : Call) (q : Request) → Question q → b .plan ≡ none → rowFor b c q ≡ some 17
 unfolding firstRow
@@ -80,9 +68,10 @@ no-plan b c (Depot d) h p = rw p
 no-plan b c (Difference a d) h p = rw p
 no-plan b c Written h p = rw p
 no-plan b c (AtLeast m) h p = rw p
+no-plan b c ListWritten h p = absurd h
 
 module _ (s : State) (c : Call) where
-  pub zero-told : Question (c .request) → corrupt s ≡ true → same c (refused 0) ≡ step s c .reply
+  pub zero-told : ReadsOnly (c .request) → corrupt s ≡ true → same c (refused 0) ≡ step s c .reply
   zero-told q h = sym (ap (λ (d : Done). d .reply) (zero-step s c (tries-zero (c .request) q) h))
 
   pub wants-told : Question (c .request) → corrupt s ≡ false → s .store .held ≡ false → same c (refused 17) ≡ step s c .reply
@@ -94,6 +83,30 @@ module _ (s : State) (c : Call) where
       → same c (told (cond t (of.Refused n) a)) ≡ step s c .reply
   asked true n a h g = sym (ap (λ (d : Done). d .reply) (refused-step s c n h))
   asked false n a h g = sym (ap (λ (d : Done). d .reply) (granted-step s c h) ∙ g refl)
+
+  -- row 20, or the bytes that a writer wrote
+  module _ (bytes : List ℕ) (row : refusal s c ≡ cond (isShort c bytes) (some 20) none) (effect : effectOf s c (c .request) .reply ≡ putOut c bytes) where
+    out-by : (t : Bool) → leb (length bytes) (length (c .buffer)) ≡ t
+        → record { answer = told (wroteTold (cond t (wrote.Length (length bytes)) (wrote.Refused 20))); buffer = cond t (onto bytes (c .buffer)) (c .buffer) } ≡ step s c .reply
+    out-by true u =
+        let l = leb-true (length bytes) (length (c .buffer)) u in
+        sym (ap (λ (d : Done). d .reply) (granted-step s c (row ∙ rw (le-ltb (length (c .buffer)) (length bytes) l))) ∙ effect)
+    out-by false u =
+        let l = leb-false (length bytes) (length (c .buffer)) u in
+        sym (ap (λ (d : Done). d .reply) (refused-step s c 20 (row ∙ rw (lt-ltb (length (c .buffer)) (length bytes) l))))
+
+    out-told : {w : Wrote} {r : Answer} {last : List ℕ} → Writes bytes (c .buffer) w last → r ≡ wroteTold w → record { answer = told r; buffer = last } ≡ step s c .reply
+    out-told w h = rw (h, w .answer, w .buffer) (out-by (leb (length bytes) (length (c .buffer))) refl)
+
+-- ---- the list written out, with a plan or without one
+
+pub list-told : {s : State} {list : ListArray} {k : Summary} {gs ss : List ℕ} → Stands s list k gs ss → corrupt s ≡ false → (c : Call) → c .request ≡ ListWritten
+    → {w : Wrote} {r : Answer} {last : List ℕ} → Writes (listBytes (s .edition) (listing list)) (c .buffer) w last → r ≡ wroteTold w
+    → record { answer = told r; buffer = last } ≡ step s c .reply
+unfolding firstRow
+list-told {s} {list} st z c q w h =
+    let lists : listing list ≡ listOf s = stands-list st z in
+    out-told s c (listBytes (s .edition) (listing list)) (row-is s c z ListWritten q ∙ rw lists) (rw (q, lists)) w h
 
 -- ---- a plan is held
 
@@ -125,29 +138,9 @@ module _ {s : State} {list : ListArray} {k : Summary} {gs ss ws : List ℕ} {f :
   size-is : (d : ℕ) → sizeAt s d ≡ heldSize list plan d
   size-is d = by (λ (l : Listing) (gs : List ℕ). groupSize (network l) gs (place gs d))
 
-  abbrev bytes : List ℕ
-  bytes = planBytes (s .edition) (planIn plan (list .count))
-
   -- what is answered to a request
   abbrev Answers : Request → Answer → List ℕ → Type 0
   Answers q r last = record { answer = told r; buffer = last } ≡ step s (call q) .reply
-
-  written-row : refusal s (call Written) ≡ cond (ltb (length buffer) (length bytes)) (some 20) none
-  unfolding firstRow
-  written-row = row-is s (call Written) z Written refl ∙ rw (there, ← plans)
-
-  written-reply : effectOf s (call Written) Written .reply ≡ record { answer = told (of.Length (length bytes)); buffer = onto bytes buffer }
-  written-reply =
-      ap (λ (p : Plan). let b = planBytes (s .edition) p in record { answer = told (of.Length (length b)); buffer = onto b buffer }) (sym plans)
-
-  written-by : (t : Bool) → leb (length bytes) (length buffer) ≡ t
-      → Answers Written (cond t (of.Length (length bytes)) (of.Refused 20)) (cond t (onto bytes buffer) buffer)
-  written-by true u =
-      let l = leb-true (length bytes) (length buffer) u in
-      sym (ap (λ (d : Done). d .reply) (granted-step s (call Written) (written-row ∙ rw (le-ltb (length buffer) (length bytes) l))) ∙ written-reply)
-  written-by false u =
-      let l = leb-false (length bytes) (length buffer) u in
-      sym (ap (λ (d : Done). d .reply) (refused-step s (call Written) 20 (written-row ∙ rw (lt-ltb (length buffer) (length bytes) l))))
 
   module _ (q : Request) (r : Answer) where
     pub share-told : (i : ℕ) → q ≡ Share i → r ≡ cond (leb (list .count) i) (of.Refused 18) (of.Share (getD ss i 0) (getD ws i 0)) → Answers q r buffer
@@ -188,11 +181,13 @@ module _ {s : State} {list : ListArray} {k : Summary} {gs ss ws : List ℕ} {f :
         (row-is s (call (Difference a b)) z (Difference a b) refl ∙ rw (there, lists))
         (λ u. rw (litres-is a, litres-is b, size-is a, size-is b)))
 
-    pub written-told : (e : Edition) (last : List ℕ) → s .edition ≡ e → q ≡ Written
-        → ToldWritten (planBytes e (record { groups = take (k .grouped) gs; shares = take (list .count) ss })) buffer r last → Answers q r last
-    written-told e last m h w =
-        let x = rw (← m) at w in
-        rw (h, x .answer, x .buffer) (written-by (leb (length bytes) (length buffer)) refl)
+    pub written-told : (e : Edition) {w : Wrote} (last : List ℕ) → s .edition ≡ e → q ≡ Written
+        → Writes (planBytes e (record { groups = take (k .grouped) gs; shares = take (list .count) ss })) buffer w last → r ≡ wroteTold w → Answers q r last
+    unfolding firstRow
+    written-told e last m h w t =
+        rw h
+        (out-told s (call Written) (planBytes (s .edition) (planIn plan (list .count))) (row-is s (call Written) z Written refl ∙ rw (there, ← plans))
+        (ap (λ (p : Plan). putOut (call Written) (planBytes (s .edition) p)) (sym plans)) (rw (← m) at w) t)
 
     pub at-least-told : (m x : ℕ) → q ≡ AtLeast m → r ≡ of.Reached x → x ≡ setOf (depotsRead (net list) (groupsIn list plan) m) 64 → Answers q r buffer
     unfolding firstRow

@@ -1,4 +1,4 @@
-// What each call decides, on values: the rows of a change, an added site and a proposal, and the answers to questions.
+// What each call decides, on values: the rows of a change, an added site and a proposal, and the answers to calls that only read.
 use density::Site;
 use held_state::Summary;
 use held_state::at_least;
@@ -29,7 +29,6 @@ ghost use Rattle.records.specs.declared.ListArray.{ListArray};
 ghost use Rattle.records.specs.declared.PlanArray.{PlanArray};
 ghost use Rattle.records.specs.Answer.{planRead};
 ghost use Rattle.records.specs.Values.{listing};
-ghost use Rattle.records.specs.Write.{planBytes};
 ghost use Rattle.tables.specs.Verdict.{verdict};
 ghost use Rattle.tables.specs.Tables.{net, Kept};
 ghost use Rattle.judge.specs.Check.{judgedFor};
@@ -40,8 +39,9 @@ ghost use Rattle.store.specs.declared.Request.the-variants as request;
 ghost use Rattle.store.specs.Calls.{Call, told};
 ghost use Rattle.store.specs.Model.{Model, rowsOf};
 ghost use Rattle.store.specs.State.{step};
-ghost use Rattle.store.specs.Trace.{Question};
-ghost use Rattle.store_calls.specs.Told.{ToldWritten};
+ghost use Rattle.store.specs.Trace.{ReadsOnly};
+ghost use Rattle.store.specs.Widths.{Fitting};
+ghost use Rattle.store_calls.specs.Told.{wroteTold};
 
 // The row that refuses a change of the litres of site i, at a store of so many sites.
 pub fn change_row(count: usize, i: usize, w: u32) -> Verdict
@@ -128,18 +128,18 @@ fn share_told(count: usize, shares: &[u64], wholes: &[u64], i: usize) -> Answer
     Answer::Share(shares[i], wholes[i])
 }
 
-// The plan written out.
-fn written(e: Edition, groups: &[u64], shares: &[u64], buffer: &mut [u8]) -> Answer
-    requires { ⌜ (e .share ≤ 8) × (length (now groups) ≤ 64) × (length (now shares) ≤ 512) ⌝ }
-    ensures { λ r. ⌜ ToldWritten (planBytes e (record { groups = now (groups .entry); shares = now (shares .entry) })) (now (buffer .entry)) r (now (buffer .exit)) ⌝ }
+// What a writer answers.
+fn wrote_told(w: Wrote) -> Answer
+    ensures { λ r. ⌜ r ≡ wroteTold w ⌝ }
 {
-    match writers::plan_of(e, groups, shares, buffer) {
+    match w {
         Wrote::Length(n) => Answer::Length(n),
         Wrote::Refused(n) => Answer::Refused(n),
     }
 }
 
-// The answer to a question: row 0 is tried once, and the tables that it leaves are what is answered from. The last arm is never taken: no other request is a question.
+// The answer to a call that only reads: row 0 is tried once, and the tables that it leaves are what a question is answered from. The list is written out with a plan or without one; every
+// other such call is a question, which row 17 concerns. The last arm is never taken.
 pub fn answer(
     e: Edition,
     list: ListArray,
@@ -149,7 +149,7 @@ pub fn answer(
     request: Request,
     buffer: &mut [u8],
 ) -> Answer
-    requires { ⌜ (e .share ≤ 8) × (length (now groups) ≡ 64) × (length (now shares) ≡ 512) × BadKnown list known × Question request ⌝ }
+    requires { ⌜ Fitting e × (length (now groups) ≡ 64) × (length (now shares) ≡ 512) × BadKnown list known × ReadsOnly request ⌝ }
     ensures { λ r. ⌜ ((s : State) (input : List ℕ) → s .edition ≡ e → Stands s list known (now (groups .entry)) (now (shares .entry)) → record { answer = told r; buffer = now (buffer .exit) } ≡ step s (record { request = request; input = input; buffer = now (buffer .entry) }) .reply) ⌝ }
 {
     let count = list.count;
@@ -159,6 +159,9 @@ pub fn answer(
     if let Verdict::Refused(_) = verdict {
         return Answer::Refused(0);
     }
+    if let Request::ListWritten = request {
+        return wrote_told(writers::list(e, list, buffer));
+    }
     if !known.held {
         return Answer::Refused(17);
     }
@@ -166,7 +169,12 @@ pub fn answer(
         Request::Share(i) => share_told(count, shares, &wholes, i),
         Request::Depot(d) => depot_told(f, d),
         Request::Difference(a, b) => difference_told(f, a, b),
-        Request::Written => written(e, &groups[..known.grouped], &shares[..count], buffer),
+        Request::Written => wrote_told(writers::plan_of(
+            e,
+            &groups[..known.grouped],
+            &shares[..count],
+            buffer,
+        )),
         Request::AtLeast(m) => Answer::Reached(at_least(f, &groups[..known.grouped], m)),
         _ => Answer::Refused(0),
     }

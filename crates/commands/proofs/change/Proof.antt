@@ -1,15 +1,31 @@
 -- `commands::change` meets its contract.
 -- Assumes nothing.
 use borrow.Author.Needs.{needs}
-use mathlib.Core.Path.{_∙_}
+use Prim.Native.Nat.{ℕ}
+use mathlib.Core.Path.{_≡_, _∙_}
 use native.Mathlib.Omega.{arith}
 use denote.Ref.{now}
 use Rattle.commands.proofs.Reading.{number-is, number-within}
-use Rattle.commands.specs.Commands.{ofLitres}
+use Rattle.commands.specs.Commands.{ofSite, ofLitres}
+use Rattle.commands.specs.declared.Command.{Command}
 use Rattle.commands.specs.declared.Command.the-variants.{Call}
 use Rattle.edition1.specs.declared.Request1.the-variants as request
 use Rattle.commands.proofs.change.Statement.{statement}
 use Rattle.commands.proofs.change.Tie as tie
+
+-- the start, from where the site has been read
+abbrev start : tie.After-decimal → tie.Start
+start read = read .before .before .before
+
+-- the command, where the site is a number
+abbrev ofFirst : tie.Start → ℕ → Command
+ofFirst s i = ofLitres (now (s .args .litres)) (λ w. Call (request.Change i w))
+
+-- the site is a number
+site-known : (p : tie.After-i) → let s = start (p .before .before) in ofFirst s (p .i .given .0 .0) ≡ ofSite (now (s .args .site)) (ofFirst s)
+site-known p =
+    let read = p .before .before in
+    number-is (ofFirst (start read)) (p .i .given .1) (read .decimal .ensures)
 
 decimal-requires : tie.Need-decimal-requires
 decimal-requires c κs = search needs
@@ -22,7 +38,8 @@ enum-told c = search needs
 
 returns : tie.Need-returns
 returns c =
-    number-is (λ i. ofLitres (now (c .before .before .before .before .before .args .litres)) (λ w. Call (request.Change i w))) (c .enum-told .given .1) (c .before .before .decimal .ensures)
+    let read = c .before .before in
+    number-is (ofFirst (start read)) (c .enum-told .given .1) (read .decimal .ensures)
 
 decimal-requires-2 : tie.Need-decimal-requires-2
 decimal-requires-2 c κs = search needs
@@ -35,16 +52,24 @@ enum-told-2 c = search needs
 
 returns-2 : tie.Need-returns-2
 returns-2 c =
-    number-is (λ w. Call (request.Change (c .before .before .before .before .i .given .0 .0) w)) (c .enum-told2 .given .1) (c .before .before .decimal2 .ensures) ∙ number-is (λ i. ofLitres (now (c .before .before .before .before .before .before .before .before .before .args .litres)) (λ w. Call (request.Change i w))) (c .before .before .before .before .i .given .1) (c .before .before .before .before .before .before .decimal .ensures)
+    let again = c .before .before in
+    let known = again .before .before in
+    number-is (λ w. Call (request.Change (known .i .given .0 .0) w)) (c .enum-told2 .given .1) (again .decimal2 .ensures) ∙ site-known known
 
 cast-t8 : tie.Need-cast-t8
 cast-t8 c =
-    let m = number-within _ (c .before .w .given .0 .0) (now (c .before .before .before .before .before .before .before .before .before .before .args .litres)) (c .before .w .given .1) (c .before .before .before .decimal2 .ensures) in
+    let litres = c .before .w .given in
+    let again = c .before .before .before in
+    let known = again .before .before in
+    let s = start (known .before .before) in
+    let m = number-within _ (litres .0 .0) (now (s .args .litres)) (litres .1) (again .decimal2 .ensures) in
     record { fits = omega arith }
 
 returns-3 : tie.Need-returns-3
 returns-3 c =
-    number-is (λ w. Call (request.Change (c .before .before .before .before .before .i .given .0 .0) w)) (c .before .w .given .1) (c .before .before .before .decimal2 .ensures) ∙ number-is (λ i. ofLitres (now (c .before .before .before .before .before .before .before .before .before .before .args .litres)) (λ w. Call (request.Change i w))) (c .before .before .before .before .before .i .given .1) (c .before .before .before .before .before .before .before .decimal .ensures)
+    let again = c .before .before .before in
+    let known = again .before .before in
+    number-is (λ w. Call (request.Change (known .i .given .0 .0) w)) (c .before .w .given .1) (again .decimal2 .ensures) ∙ site-known known
 
 pub change-spec : {M : Type 1} → statement M
 change-spec =

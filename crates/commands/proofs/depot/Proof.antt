@@ -17,7 +17,9 @@ enum-known-d c = search needs
 
 cast-t5 : tie.Need-cast-t5
 cast-t5 c =
-    let m = number-within _ (c .before .d .given .0 .0) (now (c .before .before .before .before .before .args .text)) (c .before .d .given .1) (c .before .before .before .decimal .ensures) in
+    let known = c .before .d .given in
+    let read = c .before .before .before in
+    let m = number-within _ (known .0 .0) (now (read .before .before .args .text)) (known .1) (read .decimal .ensures) in
     record { fits = omega arith }
 
 enum-told : tie.Need-enum-told

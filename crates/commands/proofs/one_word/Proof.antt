@@ -32,7 +32,9 @@ given-requires c κs = search needs
 returns-2 : tie.Need-returns-2
 unfolding oneWord
 returns-2 c =
-    simp (same-no (c .before .before .before .before .before .same .ensures) (c .before .before .before .before .if1 .left), same-yes (c .before .before .same2 .ensures) (c .before .if2 .taken)) (c .given .ensures)
+    let at = c .before .before in
+    let first = at .before .before in
+    simp (same-no (first .before .same .ensures) (first .if1 .left), same-yes (at .same2 .ensures) (c .before .if2 .taken)) (c .given .ensures)
 
 slice-aggregate-same-3 : tie.Need-slice-aggregate-same-3
 slice-aggregate-same-3 c = search needs
@@ -46,15 +48,25 @@ given-requires-2 c κs = search needs
 returns-3 : tie.Need-returns-3
 unfolding oneWord
 returns-3 c =
-    simp (same-no (c .before .before .before .before .before .before .before .before .same .ensures) (c .before .before .before .before .before .before .before .if1 .left), same-no (c .before .before .before .before .before .same2 .ensures) (c .before .before .before .before .if2 .left), same-yes (c .before .before .same3 .ensures) (c .before .if3 .taken)) (c .given2 .ensures)
+    let at = c .before .before in
+    let second = at .before .before in
+    let first = second .before .before .before in
+    simp
+    (same-no (first .before .same .ensures) (first .if1 .left), same-no (second .before .same2 .ensures) (second .if2 .left), same-yes (at .same3 .ensures) (c .before .if3 .taken))
+    (c .given2 .ensures)
 
-question-requires : tie.Need-question-requires
-question-requires c κs = search needs
+reads-requires : tie.Need-reads-requires
+reads-requires c κs = search needs
 
 returns-4 : tie.Need-returns-4
 unfolding oneWord
 returns-4 c =
-    simp (same-no (c .before .before .before .before .before .before .before .before .same .ensures) (c .before .before .before .before .before .before .before .if1 .left), same-no (c .before .before .before .before .before .same2 .ensures) (c .before .before .before .before .if2 .left), same-no (c .before .before .same3 .ensures) (c .before .if3 .left)) (c .question .ensures)
+    let third = c .before in
+    let second = third .before .before .before in
+    let first = second .before .before .before in
+    simp
+    (same-no (first .before .same .ensures) (first .if1 .left), same-no (second .before .same2 .ensures) (second .if2 .left), same-no (third .before .same3 .ensures) (third .if3 .left))
+    (c .reads .ensures)
 
 pub one-word-spec : {M : Type 1} → statement M
 one-word-spec =
@@ -72,5 +84,5 @@ one-word-spec =
     same-requires-3
     given-requires-2
     returns-3
-    question-requires
+    reads-requires
     returns-4)

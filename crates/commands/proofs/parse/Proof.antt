@@ -22,9 +22,11 @@ shared-slice-read-if2 c = search needs
 
 returns-2 : tie.Need-returns-2
 returns-2 c =
-    let w = now (c .before .before .before .word .result) in
-    let line = now (c .before .before .before .before .before .args .line) in
-    rw (words-some line w (c .before .before .before .word .ensures) (restOf line) refl (c .before .before .if1 .left), comment-yes w (c .before .before .if1 .left) (c .if2 .taken)) refl
+    let other = c .before .before in
+    let read = other .before in
+    let w = now (read .word .result) in
+    let line = now (read .before .before .args .line) in
+    rw (words-some line w (read .word .ensures) (restOf line) refl (other .if1 .left), comment-yes w (other .if1 .left) (c .if2 .taken)) refl
 
 rest-requires : tie.Need-rest-requires
 rest-requires c κs = search needs
@@ -34,9 +36,13 @@ first-requires c κs = search needs
 
 returns-3 : tie.Need-returns-3
 returns-3 c =
-    let w = now (c .before .before .before .before .before .word .result) in
-    let line = now (c .before .before .before .before .before .before .before .args .line) in
-    rw (words-some line w (c .before .before .before .before .before .word .ensures) (now (c .before .rest .result)) (c .before .rest .ensures) (c .before .before .before .before .if1 .left), comment-no w (c .before .before .before .before .if1 .left) (c .before .before .if2 .left)) (c .first .ensures)
+    let cut = c .before in
+    let no-comment = cut .before in
+    let other = no-comment .before .before in
+    let read = other .before in
+    let w = now (read .word .result) in
+    let line = now (read .before .before .args .line) in
+    rw (words-some line w (read .word .ensures) (now (cut .rest .result)) (cut .rest .ensures) (other .if1 .left), comment-no w (other .if1 .left) (no-comment .if2 .left)) (c .first .ensures)
 
 pub parse-spec : {M : Type 1} → statement M
 parse-spec =

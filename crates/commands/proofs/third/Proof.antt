@@ -1,15 +1,24 @@
 -- `commands::third` meets its contract.
 -- Assumes nothing.
 use borrow.Author.Needs.{needs}
-use Prim.Native.Nat.{ℕ}
-use mathlib.Core.Path.{refl, sym, ap, _∙_}
-use mathlib.Core.List.{List, _∷_}
+use mathlib.Core.Path.{_≡_, refl}
+use mathlib.Core.List.{_∷_}
 use denote.Ref.{now}
-use Rattle.script.specs.Words.{restOf}
+use Rattle.script.specs.Words.{wordsOf, restOf}
 use Rattle.script.proofs.Words.{words-none, words-some}
-use Rattle.commands.specs.Commands.{callOf}
 use Rattle.commands.proofs.third.Statement.{statement}
 use Rattle.commands.proofs.third.Tie as tie
+
+-- the start, from where the third word has been read
+abbrev start : tie.After-word → tie.Start
+start read = let known = read .before .before .before in known .before .before
+
+-- the words of the text, the third read and the others cut off
+words-cut : (cut : tie.After-rest) → let read = cut .before .before in wordsOf (now (start read .args .text)) ≡ now (read .word .result) ∷ wordsOf (now (cut .rest .result))
+words-cut cut =
+    let other = cut .before in
+    let read = other .before in
+    words-some (now (start read .args .text)) (now (read .word .result)) (read .word .ensures) (now (cut .rest .result)) (cut .rest .ensures) (other .if1 .left)
 
 word-requires : tie.Need-word-requires
 word-requires c κs = search needs
@@ -19,7 +28,8 @@ two-words-requires c κs = search needs
 
 returns : tie.Need-returns
 returns c =
-    c .two-words .ensures ∙ ap (λ (l : List (List ℕ)). callOf (now (c .before .before .before .before .before .before .before .args .name)) (now (c .before .before .before .before .before .before .before .args .a) ∷ now (c .before .before .before .before .before .before .before .args .b) ∷ l)) (sym (words-none (now (c .before .before .before .before .before .before .before .args .text)) (now (c .before .before .word .result)) (c .before .before .word .ensures) (c .before .if1 .taken)))
+    let read = c .before .before in
+    rw (words-none (now (start read .args .text)) (now (read .word .result)) (read .word .ensures) (c .before .if1 .taken)) (c .two-words .ensures)
 
 rest-requires : tie.Need-rest-requires
 rest-requires c κs = search needs
@@ -32,11 +42,15 @@ three-words-requires c κs = search needs
 
 returns-2 : tie.Need-returns-2
 returns-2 c =
-    c .three-words .ensures ∙ ap (λ (l : List (List ℕ)). callOf (now (c .before .before .before .before .before .before .before .before .before .before .args .name)) (now (c .before .before .before .before .before .before .before .before .before .before .args .a) ∷ now (c .before .before .before .before .before .before .before .before .before .before .args .b) ∷ l)) (sym (words-some (now (c .before .before .before .before .before .before .before .before .before .before .args .text)) (now (c .before .before .before .before .before .word .result)) (c .before .before .before .before .before .word .ensures) (now (c .before .before .before .rest .result)) (c .before .before .before .rest .ensures) (c .before .before .before .before .if1 .left) ∙ ap (λ (l : List (List ℕ)). now (c .before .before .before .before .before .word .result) ∷ l) (words-none (now (c .before .before .before .rest .result)) (now (c .before .before .word2 .result)) (c .before .before .word2 .ensures) (c .before .if2 .taken))))
+    let last = c .before .before in
+    let cut = last .before in
+    rw (words-cut cut, words-none (now (cut .rest .result)) (now (last .word2 .result)) (last .word2 .ensures) (c .before .if2 .taken)) (c .three-words .ensures)
 
 returns-3 : tie.Need-returns-3
 returns-3 c =
-    ap (λ (l : List (List ℕ)). callOf (now (c .before .before .before .before .before .before .before .before .before .args .name)) (now (c .before .before .before .before .before .before .before .before .before .args .a) ∷ now (c .before .before .before .before .before .before .before .before .before .args .b) ∷ l)) (sym (words-some (now (c .before .before .before .before .before .before .before .before .before .args .text)) (now (c .before .before .before .before .word .result)) (c .before .before .before .before .word .ensures) (now (c .before .before .rest .result)) (c .before .before .rest .ensures) (c .before .before .before .if1 .left) ∙ ap (λ (l : List (List ℕ)). now (c .before .before .before .before .word .result) ∷ l) (words-some (now (c .before .before .rest .result)) (now (c .before .word2 .result)) (c .before .word2 .ensures) (restOf (now (c .before .before .rest .result))) refl (c .if2 .left))))
+    let last = c .before in
+    let cut = last .before in
+    rw (words-cut cut, words-some (now (cut .rest .result)) (now (last .word2 .result)) (last .word2 .ensures) (restOf (now (cut .rest .result))) refl (c .if2 .left)) refl
 
 pub third-spec : {M : Type 1} → statement M
 third-spec =

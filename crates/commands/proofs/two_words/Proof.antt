@@ -8,6 +8,10 @@ use Rattle.commands.specs.Commands.{twoWords, ofBytes}
 use Rattle.commands.proofs.two_words.Statement.{statement}
 use Rattle.commands.proofs.two_words.Tie as tie
 
+-- the start, from where the first name has been none
+abbrev start : tie.Else1 → tie.Start
+start first = let known = first .before .before .before in known .before .before .before
+
 slice-aggregate-same : tie.Need-slice-aggregate-same
 slice-aggregate-same c = search needs
 
@@ -34,7 +38,9 @@ difference-requires c κs = search needs
 returns-2 : tie.Need-returns-2
 unfolding twoWords
 returns-2 c =
-    simp (same-no (c .before .before .before .before .before .same .ensures) (c .before .before .before .before .if1 .left), same-yes (c .before .before .same2 .ensures) (c .before .if2 .taken)) (c .difference .ensures)
+    let at = c .before .before in
+    let first = at .before .before in
+    simp (same-no (first .before .same .ensures) (first .if1 .left), same-yes (at .same2 .ensures) (c .before .if2 .taken)) (c .difference .ensures)
 
 slice-aggregate-same-3 : tie.Need-slice-aggregate-same-3
 slice-aggregate-same-3 c = search needs
@@ -51,7 +57,13 @@ given-requires-2 c κs = search needs
 returns-3 : tie.Need-returns-3
 unfolding twoWords
 returns-3 c =
-    simp (same-no (c .before .before .before .before .before .before .before .before .before .same .ensures) (c .before .before .before .before .before .before .before .before .if1 .left), same-no (c .before .before .before .before .before .before .same2 .ensures) (c .before .before .before .before .before .if2 .left), same-yes (c .before .before .before .same3 .ensures) (c .before .before .if3 .taken)) (c .given2 .ensures ∙ ap (ofBytes (now (c .before .before .before .before .before .before .before .before .before .before .before .before .before .before .args .a))) (c .before .given .ensures))
+    let named = c .before .before in
+    let at = named .before in
+    let second = at .before .before in
+    let first = second .before .before .before in
+    simp
+    (same-no (first .before .same .ensures) (first .if1 .left), same-no (second .before .same2 .ensures) (second .if2 .left), same-yes (at .same3 .ensures) (named .if3 .taken))
+    (c .given2 .ensures ∙ ap (ofBytes (now (start first .args .a))) (c .before .given .ensures))
 
 slice-aggregate-same-4 : tie.Need-slice-aggregate-same-4
 slice-aggregate-same-4 c = search needs
@@ -68,12 +80,23 @@ given-requires-3 c κs = search needs
 returns-4 : tie.Need-returns-4
 unfolding twoWords
 returns-4 c =
-    simp (same-no (c .before .before .before .before .before .before .before .before .before .before .before .before .same .ensures) (c .before .before .before .before .before .before .before .before .before .before .before .if1 .left), same-no (c .before .before .before .before .before .before .before .before .before .same2 .ensures) (c .before .before .before .before .before .before .before .before .if2 .left), same-no (c .before .before .before .before .before .before .same3 .ensures) (c .before .before .before .before .before .if3 .left), same-yes (c .before .before .before .same4 .ensures) (c .before .before .if4 .taken)) (c .given3 .ensures ∙ ap (ofBytes (now (c .before .before .before .before .before .before .before .before .before .before .before .before .before .before .before .before .before .args .a))) (c .before .make .ensures))
+    let named = c .before .before in
+    let at = named .before in
+    let third = at .before .before in
+    let second = third .before .before .before in
+    let first = second .before .before .before in
+    simp
+    (same-no (first .before .same .ensures) (first .if1 .left), same-no (second .before .same2 .ensures) (second .if2 .left), same-no (third .before .same3 .ensures) (third .if3 .left), same-yes (at .same4 .ensures) (named .if4 .taken))
+    (c .given3 .ensures ∙ ap (ofBytes (now (start first .args .a))) (c .before .make .ensures))
 
 returns-5 : tie.Need-returns-5
 unfolding twoWords
 returns-5 c =
-    simp (same-no (c .before .before .before .before .before .before .before .before .before .before .same .ensures) (c .before .before .before .before .before .before .before .before .before .if1 .left), same-no (c .before .before .before .before .before .before .before .same2 .ensures) (c .before .before .before .before .before .before .if2 .left), same-no (c .before .before .before .before .same3 .ensures) (c .before .before .before .if3 .left), same-no (c .before .same4 .ensures) (c .if4 .left))
+    let third = c .before .before .before in
+    let second = third .before .before .before in
+    let first = second .before .before .before in
+    simp
+    (same-no (first .before .same .ensures) (first .if1 .left), same-no (second .before .same2 .ensures) (second .if2 .left), same-no (third .before .same3 .ensures) (third .if3 .left), same-no (c .before .same4 .ensures) (c .if4 .left))
 
 pub two-words-spec : {M : Type 1} → statement M
 two-words-spec =

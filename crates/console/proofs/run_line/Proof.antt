@@ -1,7 +1,7 @@
 -- `console::run_line` is safe and ends: the numbers of a command are within their bounds.
 -- Assumes nothing.
 use denote.Ref.{now}
-use Rattle.commands.proofs.Reading.{table-within, written-within}
+use Rattle.commands.proofs.Reading.{table-within, written-within, list-within}
 use borrow.Author.Needs.{needs}
 use Rattle.console.proofs.run_line.Statement.{statement}
 use Rattle.console.proofs.run_line.Tie as tie
@@ -14,7 +14,9 @@ enum-known-command c = search needs
 
 run-table-requires : tie.Need-run-table-requires
 run-table-requires c κs =
-    table-within (now (c .before .before .before .before .before .args .line)) (c .before .before .before .parse .ensures) (c .before .command .given .0 .0) (c .before .command .given .1)
+    let known = c .before in
+    let parsed = known .before .before in
+    table-within (now (parsed .before .before .args .line)) (parsed .parse .ensures) (known .command .given .0 .0) (known .command .given .1)
 
 enum-known-command-2 : tie.Need-enum-known-command-2
 enum-known-command-2 c = search needs
@@ -33,7 +35,21 @@ rest-requires-2 c κs = search needs
 
 run-call-requires-2 : tie.Need-run-call-requires-2
 run-call-requires-2 c κs =
-    written-within (now (c .before .before .before .before .before .before .args .line)) (c .before .before .before .before .parse .ensures) (c .before .before .command3 .given .0 .0) (c .before .before .command3 .given .1)
+    let known = c .before .before in
+    let parsed = known .before .before in
+    written-within (now (parsed .before .before .args .line)) (parsed .parse .ensures) (known .command3 .given .0 .0) (known .command3 .given .1)
+
+enum-known-command-4 : tie.Need-enum-known-command-4
+enum-known-command-4 c = search needs
+
+rest-requires-3 : tie.Need-rest-requires-3
+rest-requires-3 c κs = search needs
+
+run-call-requires-3 : tie.Need-run-call-requires-3
+run-call-requires-3 c κs =
+    let known = c .before .before in
+    let parsed = known .before .before in
+    list-within (now (parsed .before .before .args .line)) (parsed .parse .ensures) (known .command4 .given .0 .0) (known .command4 .given .1)
 
 run-apart-requires : tie.Need-run-apart-requires
 run-apart-requires c κs = search needs
@@ -50,6 +66,9 @@ returns-3 c = search needs
 returns-4 : tie.Need-returns-4
 returns-4 c = search needs
 
+returns-5 : tie.Need-returns-5
+returns-5 c = search needs
+
 pub run-line-spec : {M : Type 1} → statement M
 run-line-spec =
     tie.close
@@ -63,8 +82,12 @@ run-line-spec =
     enum-known-command-3
     rest-requires-2
     run-call-requires-2
+    enum-known-command-4
+    rest-requires-3
+    run-call-requires-3
     run-apart-requires
     returns
     returns-2
     returns-3
-    returns-4)
+    returns-4
+    returns-5)

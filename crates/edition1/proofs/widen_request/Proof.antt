@@ -39,6 +39,9 @@ enum-told-3 c = search needs
 enum-known-q-6 : tie.Need-enum-known-q-6
 enum-known-q-6 c = search needs
 
+enum-told-4 : tie.Need-enum-told-4
+enum-told-4 c = search needs
+
 returns : tie.Need-returns
 returns c = (search needs, tt)
 
@@ -66,6 +69,9 @@ returns-8 c = (search needs, tt)
 returns-9 : tie.Need-returns-9
 returns-9 c = (sym (ap requestOf1 (c .before .q6 .given .1)), tt)
 
+returns-10 : tie.Need-returns-10
+returns-10 c = (search needs, tt)
+
 pub widen-request-spec : {M : Type 1} → statement M
 widen-request-spec =
     tie.close
@@ -81,6 +87,7 @@ widen-request-spec =
     enum-known-q-5
     enum-told-3
     enum-known-q-6
+    enum-told-4
     returns
     returns-2
     returns-3
@@ -89,4 +96,5 @@ widen-request-spec =
     returns-6
     returns-7
     returns-8
-    returns-9)
+    returns-9
+    returns-10)

@@ -17,9 +17,8 @@ use Rattle.table.proofs.store1.Met as store1-thm
 use Rattle.edition1.specs.declared.Store1.{Store1}
 use Rattle.edition1.specs.declared.Decision1.{Decision1}
 use Rattle.edition1.specs.declared.Request1.{Request1}
-use Rattle.records.specs.Bytes.{Bytes}
 use Rattle.store.specs.State.{step}
-use Rattle.edition1.specs.Edition1.{view1, callOf1, turned1, Served1}
+use Rattle.edition1.specs.Edition1.{view1, callOf1, Typed1, turned1, Served1}
 use Rattle.edition1.proofs.Store1 as K
 use Rattle.edition1.proofs.Request1 as Q
 use Rattle.edition1.proofs.Decision1 as D
@@ -110,7 +109,7 @@ module _ {M : Type 1} (𝓤 : URA M) (H : Heap 𝓤) (A : Atoms 𝓤) (W : Given
         owned ! usize _ (uint-row w64 .makes 𝓤 H A W) (p .from) _ (refl, from-fits p p-is) $ fjoin ! $
         owned ! (Array S 512) _ (arrays site 512 .makes 𝓤 H A W) ss _ is $ fjoin ! $ move ! (2 ∷ 0 ∷ []) $ fjoin ! $ nothing ! $ move ! (2 ∷ 0 ∷ []) $ join ! $ done !
 
-    exits : (d : Decision1) (zs : List Site) (bs : List ℕ) → Is D.the-row d (decision .val d ∷ []) → Bytes (s .now) × (turned1 (outOf d) zs bs ≡ step (view1 k (x .now)) (callOf1 a (s .now) (b .now))) → length zs ≡ length (x .now)
+    exits : (d : Decision1) (zs : List Site) (bs : List ℕ) → Is D.the-row d (decision .val d ∷ []) → Typed1 a (s .now) × (turned1 (outOf d) zs bs ≡ step (view1 k (x .now)) (callOf1 a (s .now) (b .now))) → length zs ≡ length (x .now)
         → length bs ≡ length (b .now)
         → ent 𝓤 (⋆ 𝓤 H A (‵ (flft κ q) ∷ ‵ (flft κ′ q′) ∷ ‵ (flft κ″ q″) ∷ ‵ (finally S (x .name) zs) ∷ ‵ (finally u8 (b .name) bs) ∷ ‵ (shared κ′ u8 s) ∷ [])) (Post (out .val (outOf d)))
     exits d zs bs is e long b-long =
@@ -162,7 +161,7 @@ module _ {M : Type 1} (𝓤 : URA M) (H : Heap 𝓤) (A : Atoms 𝓤) (W : Given
         move ! (5 ∷ 4 ∷ 0 ∷ 6 ∷ []) $ join ! $ use3 W (raw (Serve 𝓤 H A mem run .pre (to-serve ss))) (asks-serve ss ss-are) $
         calls-plain ! fm serve1.ended (serve1.clauses 𝓤 H A mem run) known-serve (to-serve ss) decision
         (and-then ! (load ! (from ! (stop !)) (look ! 34 refl)) (and-then ! (load ! (from ! (stop !)) (look ! 24 refl)) (and-then ! (load ! (from ! (stop !)) (look ! 14 refl)) (and-then ! (load ! (from ! (stop !)) (look ! 30 refl)) (and-then ! (load ! (from ! (stop !)) (look ! 28 refl)) (and-then ! (load ! (from ! (stop !)) (look ! 10 refl)) (no-more !))))))) (λ d ws d-is.
-        heard ! (Bytes (s .now) × Served1 k ss (length (x .now)) a (s .now) (b .now) d (ws .1 .1 .1 .1 .1 .0)) (λ told.
+        heard ! (Typed1 a (s .now) × Served1 k ss (length (x .now)) a (s .now) (b .now) d (ws .1 .1 .1 .1 .1 .0)) (λ told.
         land ! (from ! (stop !)) (init ! 23 refl (decision .lawful 𝓤 H A W .typed d _ d-is .0)) $
         use1 W (‵ (flft κ′ q′) ⊛ ‵ (flft κ″ q″) ⊛ ‵ ftrue) (id⊢ 𝓤 _) $ split ! $ move ! (1 ∷ []) $ split ! $ move ! (1 ∷ []) $ drop ! $
         move ! (2 ∷ []) $ fsplit ! $ drop ! $ fsplit ! $ drop ! $ fsplit ! $ drop ! $ fsplit ! $ drop ! $ fsplit ! $ drop ! $ fsplit ! $ fsplit ! $ move ! (1 ∷ []) $ feqL ! (λ b-long. move ! (1 ∷ []) $ drop ! $

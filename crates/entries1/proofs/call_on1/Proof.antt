@@ -13,9 +13,8 @@ use denote.Struct.Field.{array-field}
 use Rattle.walks.proofs.Walk.{PlainRow, struct-row, uint-row, arrays, settled, fielded, to-field, shared, unique, cut, joined, row-lends, row-back, array-opens, array-closes, calls-plain, gone, machine, proved}
 use Rattle.table.proofs.Sites1.{Site, S, site}
 use Rattle.table.proofs.Site1 as T
-use Rattle.records.specs.Bytes.{Bytes}
 use Rattle.store.specs.State.{step}
-use Rattle.edition1.specs.Edition1.{view1, callOf1, turned1}
+use Rattle.edition1.specs.Edition1.{view1, callOf1, Typed1, turned1}
 use Rattle.edition1.specs.declared.Store1.{Store1}
 use Rattle.edition1.specs.declared.Out1.{Out1}
 use Rattle.edition1.specs.declared.Request1.{Request1}
@@ -102,7 +101,7 @@ module _ {M : Type 1} (𝓤 : URA M) (H : Heap 𝓤) (A : Atoms 𝓤) (W : Given
           owned ! K.the-row _ (store .makes 𝓤 H A W) k _ k-is $ fjoin ! $ move ! (1 ∷ []) $ split ! $ move ! (1 ∷ []) $ split ! $ nothing ! $ move ! (2 ∷ 0 ∷ []) $ join ! $ move ! (1 ∷ 0 ∷ []) $ join ! $ move ! (1 ∷ 0 ∷ []) $ join ! $ join ! $ nothing ! $ move ! (1 ∷ 0 ∷ []) $ done !
 
     exits : (o : Out1) (zs : List Site) (bs : List ℕ) → Is N.the-row (both o zs) (owner .val (both o zs) ∷ [])
-        → Bytes (s .now) × (turned1 o (take places zs) bs ≡ step (view1 k (take places t)) (callOf1 a (s .now) (b .now))) × (behind places zs ≡ behind places t)
+        → Typed1 a (s .now) × (turned1 o (take places zs) bs ≡ step (view1 k (take places t)) (callOf1 a (s .now) (b .now))) × (behind places zs ≡ behind places t)
         → length bs ≡ length (b .now) → ent 𝓤 (⋆ 𝓤 H A (‵ (flft κ′ q′) ∷ ‵ (flft κ″ q″) ∷ ‵ (finally u8 (b .name) bs) ∷ ‵ (shared κ′ u8 s) ∷ [])) (Post (owner .val (both o zs)))
     exits o zs bs is e b-long =
         qed W (‵ (flft κ′ q′) ∷ ‵ (flft κ″ q″) ∷ ‵ (finally u8 (b .name) bs) ∷ ‵ (shared κ′ u8 s) ∷ []) ∵
@@ -146,7 +145,7 @@ module _ {M : Type 1} (𝓤 : URA M) (H : Heap 𝓤) (A : Atoms 𝓤) (W : Given
         -- [what the callee asks; the input; what is lent; the other row; _14; …]
         calls-plain ! fm g.ended (g.clauses 𝓤 H A mem′ run) known (to few ν l₇ δ) out
         (and-then ! (load ! (from ! (stop !)) (look ! 29 refl)) (and-then ! (load ! (from ! (stop !)) (look ! 10 refl)) (and-then ! (load ! (from ! (stop !)) (look ! 23 refl)) (and-then ! (load ! (from ! (stop !)) (look ! 21 refl)) (and-then ! (load ! (from ! (stop !)) (look ! 6 refl)) (no-more !)))))) (λ o ws o-is.
-        heard ! (Bytes (s .now) × (turned1 o (ws .1 .0) (ws .1 .1 .1 .1 .0) ≡ step (view1 k (take few t)) (callOf1 a (s .now) (b .now)))) (λ told.
+        heard ! (Typed1 a (s .now) × (turned1 o (ws .1 .0) (ws .1 .1 .1 .1 .0) ≡ step (view1 k (take few t)) (callOf1 a (s .now) (b .now)))) (λ told.
         land ! (from ! (stop !)) (init ! 15 refl (out .lawful 𝓤 H A W .typed o _ o-is .0)) $
         use1 W (‵ (flft (ν ∷ []) fullShare) ⊛ ‵ (flft κ′ q′) ⊛ ‵ (flft κ″ q″) ⊛ ‵ ftrue) (id⊢ 𝓤 _) $ split ! $ lft-end ! tt $ move ! (1 ∷ []) $ split ! $ move ! (1 ∷ []) $ split ! $ move ! (1 ∷ []) $ drop ! $
         -- [κ″'s token; κ′'s; ν is over; the last values; the input; what is lent; the other row; _14; …]

@@ -1,28 +1,32 @@
 -- `entries1::stored1` meets its contract. Assumes nothing.
 use mathlib.Core.Path.{_≡_, refl, sym, ap, _∙_}
-use mathlib.Core.List.{[], _∷_}
+use mathlib.Core.List.{List, [], _∷_}
 use Prim.Native.Nat.{ℕ}
 use types.Run.{OneOf, miss}
 use denote.Enum.Declared.{tagOf}
 use borrow.Author.Needs.{needs}
 use Rattle.edition1.specs.declared.Request1.{Request1}
-use Rattle.edition1.specs.declared.Request1.the-variants.{Load, Change, Add, Propose, Share, Depot, Difference, Written, AtLeast}
+use Rattle.edition1.specs.declared.Request1.the-variants.{Load, Change, Add, Propose, Share, Depot, Difference, Written, AtLeast, ListWritten}
 use Rattle.edition1.proofs.Request1.{the-type}
 use Rattle.entries1.specs.Stored.{none, storedOf}
 use Rattle.entries1.proofs.stored1.Statement.{statement}
 use Rattle.entries1.proofs.stored1.Tie as tie
 
 -- the requests behind the third
-others : (q : Request1) (count n : ℕ) → OneOf (3 ∷ 4 ∷ 5 ∷ 6 ∷ 7 ∷ 8 ∷ []) (tagOf the-type q) → none ≡ storedOf q count n
-others Load count n h = absurd (miss (3 ∷ 4 ∷ 5 ∷ 6 ∷ 7 ∷ 8 ∷ []) 0 tt h)
-others (Change i w) count n h = absurd (miss (3 ∷ 4 ∷ 5 ∷ 6 ∷ 7 ∷ 8 ∷ []) 1 tt h)
-others (Add f s w) count n h = absurd (miss (3 ∷ 4 ∷ 5 ∷ 6 ∷ 7 ∷ 8 ∷ []) 2 tt h)
+abbrev behind : List ℕ
+behind = 3 ∷ 4 ∷ 5 ∷ 6 ∷ 7 ∷ 8 ∷ 9 ∷ []
+
+others : (q : Request1) (count n : ℕ) → OneOf behind (tagOf the-type q) → none ≡ storedOf q count n
+others Load count n h = absurd (miss behind 0 tt h)
+others (Change i w) count n h = absurd (miss behind 1 tt h)
+others (Add f s w) count n h = absurd (miss behind 2 tt h)
 others Propose count n h = refl
 others (Share i) count n h = refl
 others (Depot d) count n h = refl
 others (Difference a b) count n h = refl
 others Written count n h = refl
 others (AtLeast m) count n h = refl
+others ListWritten count n h = refl
 
 enum-told : tie.Need-enum-told
 enum-told c = search needs
@@ -46,7 +50,8 @@ returns c =
 
 returns-2 : tie.Need-returns-2
 returns-2 c =
-    let a = c .before .before .before .before .args in
+    let start = c .before .before .before .before in
+    let a = start .args in
     c .one .ensures ∙ sym (ap (λ (q : Request1). storedOf q (a .count) (a .n)) (c .before .before .request .given .1))
 
 returns-3 : tie.Need-returns-3

@@ -11,7 +11,8 @@ use Rattle.held_state.specs.Held.{State, listOf, corrupt}
 use Rattle.store.specs.declared.Request.the-variants as request
 use Rattle.store.specs.Calls.{Call, same, done}
 use Rattle.store.specs.State.{modelOf, bare, next, step}
-use Rattle.store_calls.proofs.Steps.{held-count, zero-step, add-refused, add-passed}
+use Rattle.store.proofs.Settled.{zero-step}
+use Rattle.store_calls.proofs.Steps.{held-count, add-refused, add-passed}
 use Rattle.layout.specs.Layout.{placeSize, placesIn}
 use Rattle.layout.proofs.RoundTrip.{length-sites}
 use Rattle.layout.proofs.Places.{place-room}

@@ -4,7 +4,7 @@ use Prim.Native.Nat.{_^_}
 use borrow.Author.Needs.{needs}
 use denote.Ref.{now}
 use Rattle.store.specs.Widths.{Named}
-use Rattle.store.proofs.Rules.{others-ask}
+use Rattle.store.proofs.Rules.{others-read}
 use Rattle.lent.proofs.Served.{called-as}
 use Rattle.lent.proofs.call.Statement.{statement}
 use Rattle.lent.proofs.call.Tie as tie
@@ -43,7 +43,7 @@ look-requires : tie.Need-look-requires
 look-requires c κs =
     let r = c .before .before .before in
     let s = r .before .before .before .before .before in
-    (s .pre .0, s .pre .1, others-ask (s .args .request) (r .match .keys5))
+    (s .pre .0, s .pre .1, others-read (s .args .request) (r .match .keys5))
 
 same-length : tie.Need-same-length
 same-length c = search needs

@@ -14,7 +14,8 @@ use Rattle.store.specs.declared.Request.the-variants as request
 use Rattle.store.specs.Calls.{Call, same, done}
 use Rattle.store.specs.Model.{withLitres}
 use Rattle.store.specs.State.{modelOf, bare, next, step}
-use Rattle.store_calls.proofs.Steps.{held-count, zero-step, change-refused, change-passed}
+use Rattle.store.proofs.Settled.{zero-step}
+use Rattle.store_calls.proofs.Steps.{held-count, change-refused, change-passed}
 use Rattle.layout.specs.Layout.{placeSize, placesIn}
 use Rattle.layout.proofs.RoundTrip.{length-sites}
 use Rattle.layout.proofs.Places.{place-room}

@@ -54,7 +54,7 @@ answer-requires : tie.Need-answer-requires
 answer-requires c κs =
     let k = c .before .before .before in
     let l = k .before .list-in in
-    (start k .pre .0 .1, search needs, search needs, k .summary .ensures .3 (l .result) (l .ensures .0) (l .ensures .1), start k .pre .2)
+    (start k .pre .0, search needs, search needs, k .summary .ensures .3 (l .result) (l .ensures .0) (l .ensures .1), start k .pre .2)
 
 same-length : tie.Need-same-length
 same-length c = search needs

@@ -13,7 +13,7 @@ use Rattle.held_state.proofs.Intact.{good-range, intact→}
 use Rattle.held_state.proofs.Standing.{stands-few, stands-list}
 use Rattle.store.specs.declared.Request.the-variants as request
 use Rattle.store.specs.Calls.{Call}
-use Rattle.store_calls.proofs.Steps.{zero-step}
+use Rattle.store.proofs.Settled.{zero-step}
 use Rattle.lent.specs.Lent.{stateIn}
 use Rattle.lent.proofs.Served.{sized-is, stands, keeps, puts-plan}
 use Rattle.lent.proofs.Loaded.{Holds, proposal-holds, proposal-keeps}

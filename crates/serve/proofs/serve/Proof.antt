@@ -1,5 +1,5 @@
 -- `serve::serve` meets its contract. Assumes nothing.
-use Rattle.store.proofs.Rules.{others-ask}
+use Rattle.store.proofs.Rules.{others-read}
 use borrow.Author.Needs.{needs}
 use Rattle.serve.proofs.serve.Statement.{statement}
 use Rattle.serve.proofs.serve.Tie as tie
@@ -32,7 +32,7 @@ ask-requires : tie.Need-ask-requires
 ask-requires c κs =
     let t = c .before in
     let s = t .before .before .before in
-    (s .pre .1, others-ask (s .args .request) (t .match .keys5))
+    (s .pre, others-read (s .args .request) (t .match .keys5))
 
 returns : tie.Need-returns
 returns c = let t = c .before in

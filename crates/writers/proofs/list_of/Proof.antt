@@ -2,11 +2,12 @@
 use borrow.Author.Needs.{needs}
 use Prim.Native.Nat.{ℕ, _≤_, _+_, _*_}
 use mathlib.Core.Path.{_≡_, _∙_, ap}
-use mathlib.Core.List.{[], _++_, flatMap}
+use mathlib.Core.List.{List, [], _++_, flatMap}
 use native.Mathlib.Nat.{mul-le-mul-right}
 use native.Mathlib.Omega.{arith}
 use lib.ListN.{length, take}
 use lib.Seq.{length-take-le}
+use Rattle.density.specs.Network.{Listing}
 use Rattle.records.specs.Bytes.{le}
 use Rattle.records.specs.Format.{siteSize}
 use Rattle.records.specs.Write.{siteBytes}
@@ -18,30 +19,50 @@ use Rattle.writers.proofs.list_of.Tie as tie
 add-size : tie.Need-add-size
 add-size c = search needs
 
-small : (c : tie.After-slice-known) → (4 + c .before .args .e .litres) * c .before .args .n ≤ 12 * c .before .args .n
-small c = mul-le-mul-right (c .before .args .n) (omega arith)
+abbrev given : tie.Start → Listing
+given s = record { sites = take (s .args .n) (s .args .table) }
 
-taken : (c : tie.Start) → length (take (c .args .n) (c .args .table)) ≡ c .args .n
-taken c = length-take-le _ _ (omega arith)
+-- the bytes written so far
+abbrev marked : tie.Start → List ℕ
+marked s = [] ++ le 2 (s .args .e .mark .list)
+
+abbrev headed : tie.Start → List ℕ
+headed s = marked s ++ le 2 (s .args .n)
+
+-- the places on the way to where the call has come to
+abbrev start1 : tie.After-number-at → tie.Start
+start1 c = let sized = c .before .before .before in sized .before
+
+abbrev mark-put : tie.After-number-at2 → tie.After-number-at
+mark-put c = let known = c .before .before in known .before .before
+
+abbrev start2 : tie.After-number-at2 → tie.Start
+start2 c = start1 (mark-put c)
+
+-- a site's record has at most twelve bytes
+small : (s : tie.Start) → (4 + s .args .e .litres) * s .args .n ≤ 12 * s .args .n
+small s = mul-le-mul-right (s .args .n) (omega (arith, s .pre .0))
+
+taken : (s : tie.Start) → length (given s .sites) ≡ s .args .n
+taken s = length-take-le _ _ (omega arith)
 
 -- the buffer, with what has been written at its front, after each call
-front1 : (c : tie.After-number-at) → Front ([] ++ le 2 (c .before .before .before .before .args .e .mark .list)) (c .before .before .before .before .args .out .now) (c .number-at .last .0) 2
-front1 c = front-next _ (length-le 2 (c .before .before .before .before .args .e .mark .list)) (front-none _) (c .number-at .ensures)
+front1 : (c : tie.After-number-at) → Front (marked (start1 c)) (start1 c .args .out .now) (c .number-at .last .0) 2
+front1 c = front-next _ (length-le 2 (start1 c .args .e .mark .list)) (front-none _) (c .number-at .ensures)
 
-front2 : (c : tie.After-number-at2)
-    → Front (([] ++ le 2 (c .before .before .before .before .before .before .before .before .args .e .mark .list)) ++ le 2 (c .before .before .before .before .before .before .before .before .args .n)) (c .before .before .before .before .before .before .before .before .args .out .now) (c .number-at2 .last .0) 4
-front2 c = front-next _ (length-le 2 (c .before .before .before .before .before .before .before .before .args .n)) (front1 (c .before .before .before .before)) (c .number-at2 .ensures)
+front2 : (c : tie.After-number-at2) → Front (headed (start2 c)) (start2 c .args .out .now) (c .number-at2 .last .0) 4
+front2 c = front-next _ (length-le 2 (start2 c .args .n)) (front1 (mark-put c)) (c .number-at2 .ensures)
 
 mul-total : tie.Need-mul-total
-mul-total c = omega (arith, small c)
+mul-total c = omega (arith, small (c .before))
 
 add-total : tie.Need-add-total
-add-total c = omega (arith, small c)
+add-total c = omega (arith, small (c .before))
 
 returns : tie.Need-returns
 returns c =
-    let a = c .before .before .args in
-    too-short _ (length-list (a .e) (record { sites = take (a .n) (a .table) }) ∙ ap (λ (k : ℕ). 4 + siteSize (a .e) * k) (taken (c .before .before))) (c .if1 .taken)
+    let s = c .before .before in
+    too-short _ (length-list (s .args .e) (given s) ∙ ap (λ (k : ℕ). 4 + siteSize (s .args .e) * k) (taken s)) (c .if1 .taken)
 
 number-at-requires : tie.Need-number-at-requires
 number-at-requires c κs = search needs
@@ -66,11 +87,14 @@ same-length c = search needs
 
 returns-2 : tie.Need-returns-2
 returns-2 c =
-    let a = c .before .before .before .before .before .before .before .before .before .before .before .before .before .before .args in
-    let xs = take (a .n) (a .table) in
-    let l = length-flat (siteBytes (a .e)) (siteSize (a .e)) (length-site (a .e)) xs ∙ ap (λ (k : ℕ). siteSize (a .e) * k) (taken (c .before .before .before .before .before .before .before .before .before .before .before .before .before .before)) in
-    written (c .before .before .before .before .before .before .before .before .before .before .before .before .if1 .left)
-    (list-front (a .e) (record { sites = xs }) (taken (c .before .before .before .before .before .before .before .before .before .before .before .before .before .before)) (front-lent (flatMap (siteBytes (a .e)) xs) l (front2 (c .before .before .before .before .before .before)) (c .before .before .sites .ensures)))
+    let done = c .before .before in
+    let known = done .before .before in
+    let counted = known .before .before in
+    let roomy = mark-put counted .before .before in
+    let s = start2 counted in
+    let f = siteBytes (s .args .e) in
+    let n = length-flat f (siteSize (s .args .e)) (length-site (s .args .e)) (given s .sites) ∙ ap (λ (k : ℕ). siteSize (s .args .e) * k) (taken s) in
+    written (roomy .if1 .left) (list-front (s .args .e) (given s) (taken s) (front-lent (flatMap f (given s .sites)) n (front2 counted) (done .sites .ensures)))
 
 pub list-of-spec : {M : Type 1} → statement M
 list-of-spec =

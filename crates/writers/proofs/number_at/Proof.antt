@@ -58,8 +58,9 @@ same-length-4 c = search needs
 returns-4 : tie.Need-returns-4
 returns-4 c =
     let called = c .before .before in
-    let tested = called .before .before in
-    let s = tested .before .before .before .before in
+    let other = called .before .before in
+    let sized = other .before .before .before in
+    let s = sized .before in
     rw (called .put .ensures) (number-part (s .args .at) (s .args .w) (s .args .x) (s .args .out .now) (s .pre))
 
 pub number-at-spec : {M : Type 1} → statement M

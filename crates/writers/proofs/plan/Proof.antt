@@ -21,27 +21,25 @@ groups-taken s = length-take-le (s .args .p .count) (s .args .p .groups) (groups
 shares-taken : (s : tie.Start) → length (take (s .args .n) (s .args .p .shares)) ≡ s .args .n
 shares-taken s = length-take-le (s .args .n) (s .args .p .shares) (shares-room s)
 
+-- the start, from where the arrays have been copied
+abbrev start : tie.After-shares → tie.Start
+start c = c .before .before .before
+
 array-share-prefix-groups : tie.Need-array-share-prefix-groups
-array-share-prefix-groups c = groups-room (c .before .before .before)
+array-share-prefix-groups c = groups-room (start c)
 
 slice-aggregate-plan-of : tie.Need-slice-aggregate-plan-of
-slice-aggregate-plan-of c =
-    let s = c .before .before .before .before in
-    sym (groups-taken s)
+slice-aggregate-plan-of c = sym (groups-taken (start (c .before)))
 
 array-share-prefix-shares : tie.Need-array-share-prefix-shares
-array-share-prefix-shares c =
-    let s = c .before .before .before .before in
-    shares-room s
+array-share-prefix-shares c = shares-room (start (c .before))
 
 slice-aggregate-plan-of-2 : tie.Need-slice-aggregate-plan-of-2
-slice-aggregate-plan-of-2 c =
-    let s = c .before .before .before .before .before in
-    sym (shares-taken s)
+slice-aggregate-plan-of-2 c = sym (shares-taken (start (c .before .before)))
 
 plan-of-requires : tie.Need-plan-of-requires
 plan-of-requires c κs =
-    let s = c .before .before .before .before .before .before in
+    let s = start (c .before .before .before) in
     (s .pre .0, omega (arith, groups-taken s, s .pre .1), omega (arith, shares-taken s, s .pre .2))
 
 same-length : tie.Need-same-length

@@ -31,40 +31,44 @@ headed s = grouped s ++ le 2 (length (given s .shares))
 abbrev filled : tie.Start → List ℕ
 filled s = headed s ++ flatMap (markBytes (s .args .e .mark .group) 8) (given s .groups)
 
--- the call's start, from where it has come to
+-- the places on the way to where the call has come to
 abbrev start1 : tie.After-number-at → tie.Start
-start1 c = let s = c .before .before .before .before .before .before in s
+start1 c = let sized = c .before .before .before in sized .before .before .before
+
+abbrev mark-put : tie.After-number-at2 → tie.After-number-at
+mark-put c = let known = c .before .before in known .before .before
 
 abbrev start2 : tie.After-number-at2 → tie.Start
-start2 c = let last = c .before .before .before .before in start1 last
+start2 c = start1 (mark-put c)
+
+abbrev groups-counted : tie.After-number-at3 → tie.After-number-at2
+groups-counted c = let known = c .before .before in known .before .before
 
 abbrev start3 : tie.After-number-at3 → tie.Start
-start3 c = let last = c .before .before .before .before in start2 last
+start3 c = start2 (groups-counted c)
+
+abbrev shares-counted : tie.After-records → tie.After-number-at3
+shares-counted c = let known = c .before .before in known .before .before
 
 abbrev start4 : tie.After-records → tie.Start
-start4 c = let last = c .before .before .before .before in start3 last
+start4 c = start3 (shares-counted c)
 
 -- the buffer, with what has been written at its front, after each call
 front1 : (c : tie.After-number-at) → Front (marked (start1 c)) (start1 c .args .out .now) (c .number-at .last .0) 2
 front1 c = front-next _ (length-le 2 (start1 c .args .e .mark .plan)) (front-none _) (c .number-at .ensures)
 
 front2 : (c : tie.After-number-at2) → Front (grouped (start2 c)) (start2 c .args .out .now) (c .number-at2 .last .0) 3
-front2 c =
-    let last = c .before .before .before .before in
-    front-next _ (length-le 1 (length (given (start2 c) .groups))) (front1 last) (c .number-at2 .ensures)
+front2 c = front-next _ (length-le 1 (length (given (start2 c) .groups))) (front1 (mark-put c)) (c .number-at2 .ensures)
 
 front3 : (c : tie.After-number-at3) → Front (headed (start3 c)) (start3 c .args .out .now) (c .number-at3 .last .0) 5
-front3 c =
-    let last = c .before .before .before .before in
-    front-next _ (length-le 2 (length (given (start3 c) .shares))) (front2 last) (c .number-at3 .ensures)
+front3 c = front-next _ (length-le 2 (length (given (start3 c) .shares))) (front2 (groups-counted c)) (c .number-at3 .ensures)
 
 front4 : (c : tie.After-records)
-    → let last = c .before .before .before .before .number-at3 .last .0 in
+    → let last = shares-counted c .number-at3 .last .0 in
     Front (filled (start4 c)) (start4 c .args .out .now) (putMid 5 (length last - 5) last (c .records .last .0)) (5 + 10 * length (given (start4 c) .groups))
 front4 c =
-    let last = c .before .before .before .before in
     let s = start4 c in
-    front-lent _ (length-flat (markBytes (s .args .e .mark .group) 8) 10 (length-mark (s .args .e .mark .group) 8) (given s .groups)) (front3 last) (c .records .ensures)
+    front-lent _ (length-flat (markBytes (s .args .e .mark .group) 8) 10 (length-mark (s .args .e .mark .group) 8) (given s .groups)) (front3 (shares-counted c)) (c .records .ensures)
 
 -- a share's record has at most ten bytes
 small : (s : tie.Start) → (2 + s .args .e .share) * length (given s .shares) ≤ 10 * length (given s .shares)
@@ -87,7 +91,8 @@ add-end-2 c = omega (arith, small (c .before .before .before))
 
 returns : tie.Need-returns
 returns c =
-    let s = c .before .before .before .before in
+    let sized = c .before in
+    let s = sized .before .before .before in
     too-short _ (length-plan (s .args .e) (given s)) (c .if1 .taken)
 
 number-at-requires : tie.Need-number-at-requires
@@ -129,15 +134,14 @@ same-length c = search needs
 returns-2 : tie.Need-returns-2
 returns-2 c =
     let shares = c .before .before in
-    let groups = shares .before .before .before .before in
+    let known = shares .before .before in
+    let groups = known .before .before in
+    let marked = mark-put (groups-counted (shares-counted groups)) in
+    let roomy = marked .before .before in
     let s = start4 groups in
-    let last = groups .before .before .before .before in
-    let counted = last .before .before .before .before in
-    let first = counted .before .before .before .before in
-    let left = first .before .before in
     let f = markBytes (s .args .e .mark .share) (s .args .e .share) in
     let n = length-flat f (2 + s .args .e .share) (length-mark (s .args .e .mark .share) (s .args .e .share)) (given s .shares) in
-    written (left .if1 .left) (plan-front (s .args .e) (given s) refl refl (front-lent (flatMap f (given s .shares)) n (front4 groups) (shares .records2 .ensures)))
+    written (roomy .if1 .left) (plan-front (s .args .e) (given s) refl refl (front-lent (flatMap f (given s .shares)) n (front4 groups) (shares .records2 .ensures)))
 
 pub plan-of-spec : {M : Type 1} → statement M
 plan-of-spec =

@@ -20,7 +20,8 @@ same-length c = search needs
 returns : tie.Need-returns
 returns c =
     let high = c .before .before in
-    let low = high .before .before .before .before in
+    let known = high .before .before in
+    let low = known .before .before in
     let s = low .before .before .before in
     by-halves 4 4 (s .args .at) (s .args .x) (s .args .out .now) (omega (arith, s .pre)) (low .put-four .ensures) (high .put-four2 .ensures)
 

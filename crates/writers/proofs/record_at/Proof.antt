@@ -24,10 +24,13 @@ same-length c = search needs
 
 returns : tie.Need-returns
 returns c =
-    let s = c .before .before .before .before .before .before .before .before .before in
+    let filled = c .before .before in
+    let known = filled .before .before in
+    let marked = known .before .before in
+    let s = marked .before .before .before in
     let a = s .args in
-    c .before .before .number-at2 .ensures
-    ∙ ap (place (a .at + 2) (le (a .w) (a .x))) (c .before .before .before .before .before .before .number-at .ensures)
+    filled .number-at2 .ensures
+    ∙ ap (place (a .at + 2) (le (a .w) (a .x))) (marked .number-at .ensures)
     ∙ place-place (a .at) 2 (le 2 (a .mark)) (le (a .w) (a .x)) (a .out .now) (omega arith) (length-le 2 (a .mark))
 
 pub record-at-spec : {M : Type 1} → statement M

@@ -24,8 +24,15 @@ Inv-loop out₀ mark w xs i₀ at₀ out i at =
 abbrev μ-loop : tie.MeasureT-loop
 μ-loop out₀ mark w xs i₀ at₀ out i at = length xs - i
 
-room : (c : tie.In-loop Inv-loop μ-loop) → c .before .loop .at + (2 + c .before .before .before .before .args .w) ≤ length (c .before .loop .out)
-room c = omega (arith, mul-room (2 + c .before .before .before .before .args .w) (c .loop-test .taken))
+-- the places on the way: the start, and the turn's start
+abbrev start : tie.At-loop Inv-loop μ-loop → tie.Start Inv-loop μ-loop
+start l = l .before .before .before
+
+abbrev turn : tie.After-slice-known2 Inv-loop μ-loop → tie.In-loop Inv-loop μ-loop
+turn c = let put = c .before .before in put .before .before .before
+
+room : (c : tie.In-loop Inv-loop μ-loop) → c .before .loop .at + (2 + start (c .before) .args .w) ≤ length (c .before .loop .out)
+room c = omega (arith, mul-room (2 + start (c .before) .args .w) (c .loop-test .taken))
 
 loop-holds : tie.Need-loop-holds Inv-loop μ-loop
 unfolding flatMap
@@ -41,10 +48,10 @@ record-at-requires : tie.Need-record-at-requires Inv-loop μ-loop
 record-at-requires c κs = room (c .before .before)
 
 add-at : tie.Need-add-at Inv-loop μ-loop
-add-at c = omega (arith, room (c .before .before .before .before .before))
+add-at c = omega (arith, room (turn c))
 
 add-at-2 : tie.Need-add-at-2 Inv-loop μ-loop
-add-at-2 c = omega (arith, room (c .before .before .before .before .before))
+add-at-2 c = omega (arith, room (turn c))
 
 add-i : tie.Need-add-i Inv-loop μ-loop
 add-i c = omega arith
@@ -54,14 +61,16 @@ loop-less c = omega arith
 
 loop-again : tie.Need-loop-again Inv-loop μ-loop
 loop-again c =
-    let t = c .before .before .before .before .before in
-    let l = t .before .loop in
-    let a = t .before .before .before .before .args in
+    let put = c .before .before in
+    let tested = put .before .before .before in
+    let l = tested .before .loop in
+    let known = tested .before .before in
+    let a = known .before .before .args in
     let h : l .i < length (a .xs .now) = omega arith in (
       omega arith,
       rw (add-one, mul-suc) (omega arith),
-      c .before .before .record-at .kept .0 ∙ l .inv .2,
-      c .before .before .record-at .ensures ∙ rw (l .inv .1, l .inv .3) (run-step (markBytes (a .mark) (a .w)) (2 + a .w) (length-mark (a .mark) (a .w)) (a .xs .now) (a .out .now) (l .i) 0 h),
+      put .record-at .kept .0 ∙ l .inv .2,
+      put .record-at .ensures ∙ rw (l .inv .1, l .inv .3) (run-step (markBytes (a .mark) (a .w)) (2 + a .w) (length-mark (a .mark) (a .w)) (a .xs .now) (a .out .now) (l .i) 0 h),
     )
 
 same-length : tie.Need-same-length Inv-loop μ-loop
@@ -70,7 +79,7 @@ same-length c = c .before .loop .inv .2
 returns : tie.Need-returns Inv-loop μ-loop
 returns c =
     let l = c .before .loop in
-    let e : l .i ≡ length (c .before .before .before .before .args .xs .now) = omega arith in
+    let e : l .i ≡ length (start (c .before) .args .xs .now) = omega arith in
     rw (e, take-length) at (l .inv .3)
 
 pub records-spec : {M : Type 1} → statement M

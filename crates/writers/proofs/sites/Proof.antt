@@ -26,8 +26,15 @@ abbrev μ-loop : tie.MeasureT-loop
 add-size : tie.Need-add-size Inv-loop μ-loop
 add-size c = omega arith
 
-room : (c : tie.In-loop Inv-loop μ-loop) → c .before .loop .at + siteSize (c .before .before .before .before .args .e) ≤ length (c .before .loop .out)
-room c = omega (arith, mul-room (siteSize (c .before .before .before .before .args .e)) (c .loop-test .taken))
+-- the places on the way: the start, and the turn's start
+abbrev start : tie.At-loop Inv-loop μ-loop → tie.Start Inv-loop μ-loop
+start l = l .before .before .before
+
+abbrev turn : tie.After-slice-known2 Inv-loop μ-loop → tie.In-loop Inv-loop μ-loop
+turn c = let put = c .before .before in put .before .before .before
+
+room : (c : tie.In-loop Inv-loop μ-loop) → c .before .loop .at + siteSize (start (c .before) .args .e) ≤ length (c .before .loop .out)
+room c = omega (arith, mul-room (siteSize (start (c .before) .args .e)) (c .loop-test .taken))
 
 loop-holds : tie.Need-loop-holds Inv-loop μ-loop
 unfolding flatMap
@@ -43,7 +50,7 @@ site-at-requires : tie.Need-site-at-requires Inv-loop μ-loop
 site-at-requires c κs = room (c .before .before)
 
 add-at : tie.Need-add-at Inv-loop μ-loop
-add-at c = omega (arith, room (c .before .before .before .before .before))
+add-at c = omega (arith, room (turn c))
 
 add-i : tie.Need-add-i Inv-loop μ-loop
 add-i c = omega arith
@@ -53,14 +60,16 @@ loop-less c = omega arith
 
 loop-again : tie.Need-loop-again Inv-loop μ-loop
 loop-again c =
-    let t = c .before .before .before .before .before in
-    let l = t .before .loop in
-    let a = t .before .before .before .before .args in
+    let put = c .before .before in
+    let tested = put .before .before .before in
+    let l = tested .before .loop in
+    let known = tested .before .before in
+    let a = known .before .before .args in
     let h : l .i < length (a .t2) = omega arith in (
       omega arith,
       rw (add-one, mul-suc) (omega arith),
-      c .before .before .site-at .kept .1 .0 ∙ l .inv .2,
-      c .before .before .site-at .ensures ∙ rw (l .inv .1, l .inv .3) (run-step (siteBytes (a .e)) (siteSize (a .e)) (length-site (a .e)) (a .t2) (a .out .now) (l .i) _ h),
+      put .site-at .kept .1 .0 ∙ l .inv .2,
+      put .site-at .ensures ∙ rw (l .inv .1, l .inv .3) (run-step (siteBytes (a .e)) (siteSize (a .e)) (length-site (a .e)) (a .t2) (a .out .now) (l .i) _ h),
     )
 
 same-length : tie.Need-same-length Inv-loop μ-loop
@@ -69,7 +78,7 @@ same-length c = c .before .loop .inv .2
 returns : tie.Need-returns Inv-loop μ-loop
 returns c =
     let l = c .before .loop in
-    let e : l .i ≡ c .before .before .before .before .args .n = omega arith in
+    let e : l .i ≡ start (c .before) .args .n = omega arith in
     rw e at (l .inv .3)
 
 pub sites-spec : {M : Type 1} → statement M

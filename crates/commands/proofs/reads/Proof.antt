@@ -1,10 +1,10 @@
--- `commands::question` meets its contract: the names before are none, and this one is the name.
+-- `commands::reads` meets its contract: the names before are none, and this one is the name.
 -- Assumes nothing.
 use borrow.Author.Needs.{needs}
 use Rattle.script.proofs.Words.{same-yes, same-no}
-use Rattle.commands.specs.Commands.{question}
-use Rattle.commands.proofs.question.Statement.{statement}
-use Rattle.commands.proofs.question.Tie as tie
+use Rattle.commands.specs.Commands.{reads}
+use Rattle.commands.proofs.reads.Statement.{statement}
+use Rattle.commands.proofs.reads.Tie as tie
 
 slice-aggregate-same : tie.Need-slice-aggregate-same
 slice-aggregate-same c = search needs
@@ -16,7 +16,7 @@ share-requires : tie.Need-share-requires
 share-requires c κs = search needs
 
 returns : tie.Need-returns
-unfolding question
+unfolding reads
 returns c =
     simp (same-yes (c .before .before .same .ensures) (c .before .if1 .taken)) (c .share .ensures)
 
@@ -30,7 +30,7 @@ depot-requires : tie.Need-depot-requires
 depot-requires c κs = search needs
 
 returns-2 : tie.Need-returns-2
-unfolding question
+unfolding reads
 returns-2 c =
     let at = c .before .before in
     let first = at .before .before in
@@ -46,7 +46,7 @@ written-requires : tie.Need-written-requires
 written-requires c κs = search needs
 
 returns-3 : tie.Need-returns-3
-unfolding question
+unfolding reads
 returns-3 c =
     let at = c .before .before in
     let second = at .before .before in
@@ -65,7 +65,7 @@ at-least-requires : tie.Need-at-least-requires
 at-least-requires c κs = search needs
 
 returns-4 : tie.Need-returns-4
-unfolding question
+unfolding reads
 returns-4 c =
     let at = c .before .before in
     let third = at .before .before in
@@ -75,17 +75,39 @@ returns-4 c =
     (same-no (first .before .same .ensures) (first .if1 .left), same-no (second .before .same2 .ensures) (second .if2 .left), same-no (third .before .same3 .ensures) (third .if3 .left), same-yes (at .same4 .ensures) (c .before .if4 .taken))
     (c .at-least .ensures)
 
+slice-aggregate-same-5 : tie.Need-slice-aggregate-same-5
+slice-aggregate-same-5 c = search needs
+
+same-requires-5 : tie.Need-same-requires-5
+same-requires-5 c κs = search needs
+
+list-requires : tie.Need-list-requires
+list-requires c κs = search needs
+
 returns-5 : tie.Need-returns-5
-unfolding question
+unfolding reads
 returns-5 c =
-    let third = c .before .before .before in
+    let at = c .before .before in
+    let fourth = at .before .before in
+    let third = fourth .before .before .before in
     let second = third .before .before .before in
     let first = second .before .before .before in
     simp
-    (same-no (first .before .same .ensures) (first .if1 .left), same-no (second .before .same2 .ensures) (second .if2 .left), same-no (third .before .same3 .ensures) (third .if3 .left), same-no (c .before .same4 .ensures) (c .if4 .left))
+    (same-no (first .before .same .ensures) (first .if1 .left), same-no (second .before .same2 .ensures) (second .if2 .left), same-no (third .before .same3 .ensures) (third .if3 .left), same-no (fourth .before .same4 .ensures) (fourth .if4 .left), same-yes (at .same5 .ensures) (c .before .if5 .taken))
+    (c .list .ensures)
 
-pub question-spec : {M : Type 1} → statement M
-question-spec =
+returns-6 : tie.Need-returns-6
+unfolding reads
+returns-6 c =
+    let fourth = c .before .before .before in
+    let third = fourth .before .before .before in
+    let second = third .before .before .before in
+    let first = second .before .before .before in
+    simp
+    (same-no (first .before .same .ensures) (first .if1 .left), same-no (second .before .same2 .ensures) (second .if2 .left), same-no (third .before .same3 .ensures) (third .if3 .left), same-no (fourth .before .same4 .ensures) (fourth .if4 .left), same-no (c .before .same5 .ensures) (c .if5 .left))
+
+pub reads-spec : {M : Type 1} → statement M
+reads-spec =
     tie.close
     (tie.spec
     slice-aggregate-same
@@ -104,4 +126,8 @@ question-spec =
     same-requires-4
     at-least-requires
     returns-4
-    returns-5)
+    slice-aggregate-same-5
+    same-requires-5
+    list-requires
+    returns-5
+    returns-6)

@@ -1,0 +1,54 @@
+-- `codes::wrote_out` meets its contract. Assumes nothing.
+use mathlib.Core.List.{[]}
+use mathlib.Core.Path.{_∙_}
+use Rattle.signed.proofs.Signed.{read-back}
+use Rattle.codes.proofs.DeskCodes.{no-bytes, is-store, no-store, asks, not-written, wrote-out, length-held}
+use borrow.Author.Needs.{needs}
+use Rattle.codes.proofs.wrote_out.Statement.{statement}
+use Rattle.codes.proofs.wrote_out.Tie as tie
+
+is-store1-requires : tie.Need-is-store1-requires
+is-store1-requires c κs = search needs
+
+returns : tie.Need-returns
+returns c = not-written (no-store (c .before .is-store1 .ensures) (c .if1 .taken)) no-bytes
+
+edition1-requires : tie.Need-edition1-requires
+edition1-requires c κs = search needs
+
+look-requires : tie.Need-look-requires
+look-requires c κs =
+    let tested = c .before .before in
+    let entry = tested .before .before .before .before .before in
+    let a = asks (entry .args .store .now) (c .before .edition1 .ensures) (is-store (tested .before .is-store1 .ensures) (tested .if1 .left)) in
+    (a .0, a .1, entry .pre)
+
+written-requires : tie.Need-written-requires
+written-requires c κs =
+    let looked = c .before .before in
+    let tested = looked .before .before .before in
+    let entry = tested .before .before .before .before .before in
+    length-held (looked .look .ensures [] no-bytes) (entry .good .1 .1 .1 .0 .1)
+
+same-length : tie.Need-same-length
+same-length c = search needs
+
+returns-2 : tie.Need-returns-2
+returns-2 c =
+    let looked = c .before .before .before in
+    let edition = looked .before .before in
+    let tested = edition .before in
+    wrote-out (is-store (tested .before .is-store1 .ensures) (tested .if1 .left)) (rw (edition .edition1 .ensures) at (looked .look .ensures [] no-bytes))
+    (read-back (c .written .ok) ∙ c .written .ensures)
+
+pub wrote-out-spec : {M : Type 1} → statement M
+wrote-out-spec =
+    tie.close
+    (tie.spec
+    is-store1-requires
+    returns
+    edition1-requires
+    look-requires
+    written-requires
+    same-length
+    returns-2)

@@ -1,0 +1,82 @@
+-- The step of a state by its row: what is refused and what is granted; a list that is loaded. Assumes nothing.
+use mathlib.Core.Path.{_≡_, refl, sym, ap, _∙_}
+use mathlib.Core.Bool.{true, false, and-false}
+use mathlib.Core.List.{_++_}
+use mathlib.Core.Option.{Option, none, some}
+use Prim.Native.Nat.{ℕ, _≤_}
+use native.Mathlib.Omega.{arith}
+use lib.ListN.{length, drop}
+use Rattle.density.specs.Network.{Listing}
+use Rattle.density.specs.Rows.{firstRow}
+use Rattle.records.specs.Outcome.{refused, passed, settle as outcome}
+use Rattle.records.specs.Format.{sitesOf, listRows, readList}
+use Rattle.records.proofs.RoundTrip.{list-few}
+use Rattle.held_state.specs.Held.{State, corrupt}
+use Rattle.held_state.proofs.Intact.{listing}
+use Rattle.store.specs.declared.Request.{Request}
+use Rattle.store.specs.declared.Request.the-variants.{Load}
+use Rattle.store.specs.Calls.{Call, Reply, same, refused as row, done}
+use Rattle.store.specs.State.{Done, modelOf, triesZero, rowFor, refusal, bare, next, stays, effectOf, settle, step}
+use Rattle.store.specs.Trace.{Steps}
+use Rattle.store.proofs.Plans.{settle-refused, settle-passed}
+
+module _ (s : State) (c : Call) where
+  -- row n refuses: nothing changes
+  abbrev pub Refuses : ℕ → Type 0
+  Refuses n = step s c ≡ stays s (same c (row n))
+
+  pub refused-step : (n : ℕ) → refusal s c ≡ some n → Refuses n
+  refused-step n h = ap (λ (o : Option ℕ). settle o s c (effectOf s c (c .request))) h
+
+  pub granted-step : refusal s c ≡ none → step s c ≡ effectOf s c (c .request)
+  granted-step h = ap (λ (o : Option ℕ). settle o s c (effectOf s c (c .request))) h
+
+  -- the effect of a request
+  pub granted-to : (q : Request) → c .request ≡ q → refusal s c ≡ none → step s c ≡ effectOf s c q
+  granted-to q k h = granted-step h ∙ ap (effectOf s c) k
+
+  -- row 0, and the row for a request where it does not apply
+  pub zero-step : triesZero (c .request) ≡ true → corrupt s ≡ true → Refuses 0
+  zero-step t h = refused-step 0 (rw (t, h))
+
+  pub row-is : corrupt s ≡ false → (q : Request) → c .request ≡ q → refusal s c ≡ rowFor (modelOf s) c q
+  row-is z q k = rw (z, and-false (triesZero (c .request)), k)
+
+  -- ---- a list that is loaded
+
+  load-row : c .request ≡ Load → refusal s c ≡ firstRow (listRows (s .edition) (length (s .table)) (c .input))
+  load-row k = rw k
+
+  pub load-refused : (n : ℕ) → c .request ≡ Load → readList (s .edition) (length (s .table)) (c .input) ≡ refused n → Refuses n
+  unfolding readList
+  load-refused n k h =
+      refused-step n
+      (load-row k ∙ settle-refused (firstRow (listRows (s .edition) (length (s .table)) (c .input))) (listing (sitesOf (s .edition) (c .input))) h)
+
+  pub load-read : (l : Listing) → c .request ≡ Load → readList (s .edition) (length (s .table)) (c .input) ≡ passed l
+      → (step s c ≡ next s (bare (length (l .sites))) (l .sites ++ drop (length (l .sites)) (s .table)) (same c done))
+      × (length (l .sites) ≤ 512)
+      × (length (l .sites) ≤ length (s .table))
+  unfolding readList
+  load-read l k h =
+      let p = settle-passed (firstRow (listRows (s .edition) (length (s .table)) (c .input))) (listing (sitesOf (s .edition) (c .input))) h in
+      let few = list-few (s .edition) (length (s .table)) (c .input) h in (
+        granted-to Load k (load-row k ∙ p .0)
+            ∙ ap (λ (l : Listing). next s (bare (length (l .sites))) (l .sites ++ drop (length (l .sites)) (s .table)) (same c done)) (p .1),
+        few .0,
+        few .1,
+      )
+
+  -- a load that is answered by success has read its list
+  pub load-done : (r : Reply) (s' : State) → c .request ≡ Load → Steps s c r s' → r .answer ≡ done
+      → readList (s .edition) (length (s .table)) (c .input) ≡ passed (listing (sitesOf (s .edition) (c .input)))
+  unfolding readList
+  load-done r s' k x a =
+      let rows = listRows (s .edition) (length (s .table)) (c .input) in
+      let e : r .answer ≡ settle (firstRow rows) s c (effectOf s c (c .request)) .reply .answer =
+      ap (λ (d : Done). d .reply .answer) x ∙ ap (λ (o : Option ℕ). settle o s c (effectOf s c (c .request)) .reply .answer) (load-row k) in
+      ap (λ (o : Option ℕ). outcome o (listing (sitesOf (s .edition) (c .input)))) (not-refused (firstRow rows) (sym e ∙ a))
+    where
+      not-refused : (o : Option ℕ) → settle o s c (effectOf s c (c .request)) .reply .answer ≡ done → o ≡ none
+      not-refused none e = refl
+      not-refused (some n) e = absurd (let z : _≡_ {A = ℕ} 0 1 = cc in omega arith)

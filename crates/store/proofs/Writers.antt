@@ -1,0 +1,87 @@
+-- Every writer answers the length it wrote, at any state: where a call answers a length, it is the one for the plan or the one for the list written out, which stands at the front of
+-- its buffer; that holds so many bytes, and those behind are unchanged. Assumes nothing.
+use mathlib.Core.Path.{_≡_, refl}
+use mathlib.Core.Bool.{Bool, true, false, cond, _&&_}
+use mathlib.Core.List.{List}
+use mathlib.Core.Option.{Option, none, some, Option·some-ne-none}
+use Prim.Native.Nat.{ℕ, _≤_}
+use native.Mathlib.Omega.{arith}
+use borrow.Author.Tests.{ltb-false}
+use lib.ListN.{length}
+use Rattle.density.specs.Rows.{firstRow}
+use Rattle.records.specs.Values.{Plan}
+use Rattle.records.specs.Write.{planBytes}
+use Rattle.store.specs.declared.Request.{Request}
+use Rattle.store.specs.declared.Request.the-variants.{Load, Change, Add, Propose, Share, Depot, Difference, Written, AtLeast, ListWritten}
+use Rattle.store.specs.Calls.{Call, Reply, putOut, wrote}
+use Rattle.store.specs.Model.{missing, held, isShort}
+use Rattle.held_state.specs.Held.{State, planHeld, corrupt}
+use Rattle.store.specs.State.{Done, modelOf, triesZero, rowFor, planOut, listOut, Output, stays, effectOf, settle, step}
+
+-- where no row refuses, the last does not
+plan-short : (z h : Bool) (p : Plan) (f : Plan → Bool)
+    → cond {A = Option ℕ} z (some 0) (cond (missing (cond h (some p) none)) (some 17) (cond (f (held (cond h (some p) none))) (some 20) none)) ≡ none → f p ≡ false
+plan-short true h p f e = absurd (Option·some-ne-none 0 e)
+plan-short false false p f e = absurd (Option·some-ne-none 17 e)
+plan-short false true p f e = by (f p) e
+  where
+    by : (b : Bool) → cond {A = Option ℕ} b (some 20) none ≡ none → b ≡ false
+    by true e = absurd (Option·some-ne-none 20 e)
+    by false e = refl
+
+list-short : (z b : Bool) → cond {A = Option ℕ} z (some 0) (cond b (some 20) none) ≡ none → b ≡ false
+list-short true b e = absurd (Option·some-ne-none 0 e)
+list-short false true e = absurd (Option·some-ne-none 20 e)
+list-short false false e = refl
+
+module _ (s : State) (c : Call) (n : ℕ) where
+  -- these bytes are put out, n of them, and the buffer holds them
+  abbrev Filled : Reply → List ℕ → Type 0
+  Filled r out = (r ≡ putOut c out) × (n ≡ length out) × (n ≤ length (c .buffer))
+
+  written-by : (out : List ℕ) (o : Option ℕ) → (o ≡ none → isShort c out ≡ false) → settle o s c (stays s (putOut c out)) .reply .answer ≡ wrote n
+      → Filled (settle o s c (stays s (putOut c out)) .reply) out
+  written-by out (some k) f e = let z : _≡_ {A = ℕ} 0 1 = cc in absurd (omega arith)
+  written-by out none f e =
+      let l : n ≡ length out = cc in
+      (refl, l, omega (arith, ltb-false (length (c .buffer)) (length out) (f refl), l))
+
+  -- the step for a request
+  abbrev rowOf : Request → Option ℕ
+  rowOf q = cond (triesZero q && corrupt s) (some 0) (rowFor (modelOf s) c q)
+
+  abbrev stepOf : Request → Done
+  stepOf q = settle (rowOf q) s c (effectOf s c q)
+
+  abbrev Puts : Request → Type 0
+  Puts q = stepOf q .reply .answer ≡ wrote n → (out : List ℕ) × Output s q out × Filled (stepOf q .reply) out
+
+  -- every other call answers no length
+  no-length : (q : Request) → (effectOf s c q .reply .answer ≡ wrote n → ⊥) → Puts q
+  no-length q f e = absurd (by (rowOf q) e)
+    where
+      by : (o : Option ℕ) → settle o s c (effectOf s c q) .reply .answer ≡ wrote n → ⊥
+      by (some k) e = let z : _≡_ {A = ℕ} 0 1 = cc in omega arith
+      by none e = f e
+
+  by-request : (q : Request) → Puts q
+  unfolding firstRow
+  by-request Load = no-length Load (λ e. let z : _≡_ {A = ℕ} 0 1 = cc in omega arith)
+  by-request (Change i w) = no-length (Change i w) (λ e. let z : _≡_ {A = ℕ} 0 1 = cc in omega arith)
+  by-request (Add f d w) = no-length (Add f d w) (λ e. let z : _≡_ {A = ℕ} 0 1 = cc in omega arith)
+  by-request Propose = no-length Propose (λ e. let z : _≡_ {A = ℕ} 0 1 = cc in omega arith)
+  by-request (Share i) = no-length (Share i) (λ e. let z : _≡_ {A = ℕ} 0 1 = cc in omega arith)
+  by-request (Depot d) = no-length (Depot d) (λ e. let z : _≡_ {A = ℕ} 0 1 = cc in omega arith)
+  by-request (Difference a d) = no-length (Difference a d) (λ e. let z : _≡_ {A = ℕ} 0 1 = cc in omega arith)
+  by-request Written = λ e. (
+    planOut s,
+    refl,
+    written-by (planOut s) (rowOf Written) (plan-short (corrupt s) (s .store .held) (planHeld s) (λ (p : Plan). isShort c (planBytes (s .edition) p))) e,
+  )
+  by-request (AtLeast m) = no-length (AtLeast m) (λ e. let z : _≡_ {A = ℕ} 0 1 = cc in omega arith)
+  by-request ListWritten = λ e. (listOut s, refl, written-by (listOut s) (rowOf ListWritten) (list-short (corrupt s) (isShort c (listOut s))) e)
+
+  -- Document 02, b: "every writer answers the length it wrote".
+  pub every-writer : step s c .reply .answer ≡ wrote n
+      → (out : List ℕ) × Output s (c .request) out × (step s c .reply ≡ putOut c out) × (n ≡ length out) × (n ≤ length (c .buffer))
+  every-writer e = let (out, is-output, filled) = by-request (c .request) e in (out, is-output, filled .0, filled .1, filled .2)
