@@ -24,8 +24,8 @@ use Rattle.held_state.specs.declared.Store.{Store}
 use Rattle.held_state.specs.Held.{State, listOf, corrupt}
 use Rattle.store.specs.declared.Request.the-variants.{Load, Propose}
 use Rattle.store.specs.Calls.{Call, same, done}
-use Rattle.store.specs.State.{bare, next, step}
-use Rattle.store.proofs.Settled.{Refuses, load-refused, load-read}
+use Rattle.store.specs.State.{bare, next, step, RefusedBy}
+use Rattle.store.proofs.Settled.{load-refused, load-read}
 use Rattle.store_calls.proofs.Steps.{proposal-refused, proposal-passed, held-count}
 use Rattle.layout.specs.Layout.{placesIn, sitesIn}
 use Rattle.layout.proofs.RoundTrip.{length-sites}
@@ -91,7 +91,7 @@ module _ (e : Edition) (s t : List ℕ) (c : Call) (q : c .request ≡ Load) {r 
         room = omega (arith, m, g .2, length-sites (e .litres) t);
       }
 
-  pub load-keeps : {n : ℕ} → r .answer ≡ Refused n → Refuses state c n
+  pub load-keeps : {n : ℕ} → r .answer ≡ Refused n → RefusedBy state c n
   load-keeps {n} a = load-refused state c n q (places-are ∙ list-refused found n (ap (λ (x : ListRead). x .answer) (sym read) ∙ a))
 
 -- ---- a plan
@@ -126,5 +126,5 @@ module _ (e : Edition) (s t : List ℕ) (c : Call) (q : c .request ≡ Propose) 
         each = ap (λ (x : PlanArray). length (x .shares)) plan ∙ filled-length 512 (p .shares) 0 (omega (arith, g .2, few));
       }
 
-  pub proposal-keeps : {n : ℕ} → r .answer ≡ Refused n → Refuses (stateIn e s t) c n
+  pub proposal-keeps : {n : ℕ} → r .answer ≡ Refused n → RefusedBy (stateIn e s t) c n
   proposal-keeps {n} a = proposal-refused (stateIn e s t) c z n q (plan-refused judged n (ap (λ (x : PlanRead). x .answer) (sym read-is) ∙ a))

@@ -15,17 +15,13 @@ use Rattle.held_state.specs.Held.{State, corrupt}
 use Rattle.held_state.proofs.Intact.{listing}
 use Rattle.store.specs.declared.Request.{Request}
 use Rattle.store.specs.declared.Request.the-variants.{Load}
-use Rattle.store.specs.Calls.{Call, Reply, same, refused as row, done}
-use Rattle.store.specs.State.{Done, modelOf, triesZero, rowFor, refusal, bare, next, stays, effectOf, settle, step}
+use Rattle.store.specs.Calls.{Call, Reply, same, done}
+use Rattle.store.specs.State.{Done, modelOf, triesZero, rowFor, refusal, bare, next, effectOf, settle, step, RefusedBy}
 use Rattle.store.specs.Trace.{Steps}
 use Rattle.store.proofs.Plans.{settle-refused, settle-passed}
 
 module _ (s : State) (c : Call) where
-  -- row n refuses: nothing changes
-  abbrev pub Refuses : ℕ → Type 0
-  Refuses n = step s c ≡ stays s (same c (row n))
-
-  pub refused-step : (n : ℕ) → refusal s c ≡ some n → Refuses n
+  pub refused-step : (n : ℕ) → refusal s c ≡ some n → RefusedBy s c n
   refused-step n h = ap (λ (o : Option ℕ). settle o s c (effectOf s c (c .request))) h
 
   pub granted-step : refusal s c ≡ none → step s c ≡ effectOf s c (c .request)
@@ -36,7 +32,7 @@ module _ (s : State) (c : Call) where
   granted-to q k h = granted-step h ∙ ap (effectOf s c) k
 
   -- row 0, and the row for a request where it does not apply
-  pub zero-step : triesZero (c .request) ≡ true → corrupt s ≡ true → Refuses 0
+  pub zero-step : triesZero (c .request) ≡ true → corrupt s ≡ true → RefusedBy s c 0
   zero-step t h = refused-step 0 (rw (t, h))
 
   pub row-is : corrupt s ≡ false → (q : Request) → c .request ≡ q → refusal s c ≡ rowFor (modelOf s) c q
@@ -47,7 +43,7 @@ module _ (s : State) (c : Call) where
   load-row : c .request ≡ Load → refusal s c ≡ firstRow (listRows (s .edition) (length (s .table)) (c .input))
   load-row k = rw k
 
-  pub load-refused : (n : ℕ) → c .request ≡ Load → readList (s .edition) (length (s .table)) (c .input) ≡ refused n → Refuses n
+  pub load-refused : (n : ℕ) → c .request ≡ Load → readList (s .edition) (length (s .table)) (c .input) ≡ refused n → RefusedBy s c n
   unfolding readList
   load-refused n k h =
       refused-step n

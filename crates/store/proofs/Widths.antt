@@ -1,5 +1,5 @@
 -- A step keeps the widths of an edition: figures read are fields of that width, and those filled in are zero. Assumes nothing.
-use mathlib.Core.Path.{_≡_, sym, subst}
+use mathlib.Core.Path.{sym, subst}
 use mathlib.Core.List.{List, [], _∷_, _++_, map, append-nil}
 use mathlib.Core.Option.{Option, none, some}
 use Prim.Native.Nat.{ℕ, zero, suc, _+_, _-_, _*_, _<_, _^_}
@@ -17,7 +17,7 @@ use Rattle.store.specs.declared.Request.{Request}
 use Rattle.store.specs.declared.Request.the-variants.{Load, Change, Add, Propose, Share, Depot, Difference, Written, AtLeast, ListWritten}
 use Rattle.store.specs.Calls.{Call, Reply}
 use Rattle.store.specs.Model.{withLitres}
-use Rattle.store.specs.Widths.{Named, AllNamed, PlacesFit, Fits}
+use Rattle.store.specs.Widths.{Named, AllNamed, Fits, SitesFit}
 use Rattle.held_state.specs.Held.{State, listOf}
 use Rattle.store.specs.State.{Done, refusal, effectOf, settle, step}
 use Rattle.store.specs.Trace.{Run, start, then, Steps, AllBytes}
@@ -127,11 +127,6 @@ module _ (m : ℕ) (s : State) (h : Fits m s) (c : Call) (bytes : Bytes (c .inpu
   step-fits n = settle-fits (refusal s c) (effectOf s c (c .request)) (effect-fits (c .request) n)
 
 -- ---- the sites held
-
--- their litres have the width of the edition
-pub record SitesFit (e : Edition) (s : State) : Type 0 where
-  pub edition : s .edition ≡ e
-  pub litres : PlacesFit (s .store .count) s
 
 module _ {e : Edition} (s : State) (h : SitesFit e s) (c : Call) (bytes : Bytes (c .input)) where
   abbrev Wide : Site → Type 0

@@ -134,3 +134,7 @@ settle none s c d = d
 
 abbrev pub step : State → Call → Done
 step s c = settle (refusal s c) s c (effectOf s c (c .request))
+
+-- row n refuses the call: so it is answered, and nothing changes
+abbrev pub RefusedBy : State → Call → ℕ → Type 0
+RefusedBy s c n = step s c ≡ stays s (same c (refused n))

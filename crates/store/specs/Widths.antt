@@ -1,4 +1,5 @@
 -- Document 01, "Entry points", the desk: widths of figures. "Litres in a change or an added site are a 16-bit figure".
+use mathlib.Core.Path.{_≡_}
 use mathlib.Core.List.{List}
 use Prim.Native.Nat.{ℕ, _<_, _≤_, _^_}
 use lib.ListN.{getD}
@@ -39,3 +40,8 @@ PlacesFit m s = (i : ℕ) → i < m → getD (s .table) i noSite .litres < 256 ^
 pub record Fits (m : ℕ) (s : State) : Type 0 where
   pub litres : PlacesFit m s
   pub shares : (i : ℕ) → getD (s .store .shares) i 0 < 256 ^ s .edition .share
+
+-- a state of the edition, and the litres of the sites held have its width
+pub record SitesFit (e : Edition) (s : State) : Type 0 where
+  pub edition : s .edition ≡ e
+  pub litres : PlacesFit (s .store .count) s

@@ -27,9 +27,9 @@ use Rattle.held_state.proofs.Intact.{intact→, sized}
 use Rattle.store.specs.declared.Request.the-variants.{Change, Add, Propose}
 use Rattle.store.specs.Calls.{Call, same, refused as row, done}
 use Rattle.store.specs.Model.{rowsOf, withLitres}
-use Rattle.store.specs.State.{modelOf, planRow, firstOf, bare, holding, next, step}
+use Rattle.store.specs.State.{modelOf, planRow, firstOf, bare, holding, next, step, RefusedBy}
 use Rattle.store.proofs.Plans.{settle-refused, settle-passed}
-use Rattle.store.proofs.Settled.{Refuses, refused-step, granted-to, row-is}
+use Rattle.store.proofs.Settled.{refused-step, granted-to, row-is}
 
 -- ---- verdicts
 
@@ -89,7 +89,7 @@ module _ (s : State) (c : Call) where
     unfolding readPlan
     laid-out p h = settle-passed layout laid h
 
-    pub proposal-refused : (n : ℕ) → c .request ≡ Propose → judgedFor (s .edition) (listOf s) (c .input) ≡ refused n → Refuses s c n
+    pub proposal-refused : (n : ℕ) → c .request ≡ Propose → judgedFor (s .edition) (listOf s) (c .input) ≡ refused n → RefusedBy s c n
     unfolding readPlan
     proposal-refused n q h =
         refused-step s c n
@@ -119,7 +119,7 @@ module _ (s : State) (c : Call) where
           shares ∙ size,
         )
 
-    pub change-refused : (i w n : ℕ) → c .request ≡ Change i w → verdict (firstRow (rowsOf (modelOf s) c (Change i w))) ≡ Refused n → Refuses s c n
+    pub change-refused : (i w n : ℕ) → c .request ≡ Change i w → verdict (firstRow (rowsOf (modelOf s) c (Change i w))) ≡ Refused n → RefusedBy s c n
     change-refused i w n q h = refused-step s c n (row-is s c z (Change i w) q ∙ verdict-refused _ n h)
 
     pub change-passed : (i w : ℕ) → c .request ≡ Change i w → verdict (firstRow (rowsOf (modelOf s) c (Change i w))) ≡ Passes
@@ -130,7 +130,7 @@ module _ (s : State) (c : Call) where
         let l = below (length (listOf s .sites)) i (k .1 .0) in
         (granted-to s c (Change i w) q (row-is s c z (Change i w) q ∙ o), omega (arith, size))
 
-    pub add-refused : (f d w n : ℕ) → c .request ≡ Add f d w → verdict (firstRow (rowsOf (modelOf s) c (Add f d w))) ≡ Refused n → Refuses s c n
+    pub add-refused : (f d w n : ℕ) → c .request ≡ Add f d w → verdict (firstRow (rowsOf (modelOf s) c (Add f d w))) ≡ Refused n → RefusedBy s c n
     add-refused f d w n q h = refused-step s c n (row-is s c z (Add f d w) q ∙ verdict-refused _ n h)
 
     pub add-passed : (f d w : ℕ) → c .request ≡ Add f d w → verdict (firstRow (rowsOf (modelOf s) c (Add f d w))) ≡ Passes

@@ -7,6 +7,10 @@ use borrow.Author.Needs.{needs}
 use Rattle.codes.proofs.wrote_out.Statement.{statement}
 use Rattle.codes.proofs.wrote_out.Tie as tie
 
+-- the start, from where the store's length has been tested
+abbrev entry : tie.Else1 → tie.Start
+entry tested = let known = tested .before .before .before in known .before .before
+
 is-store1-requires : tie.Need-is-store1-requires
 is-store1-requires c κs = search needs
 
@@ -19,16 +23,16 @@ edition1-requires c κs = search needs
 look-requires : tie.Need-look-requires
 look-requires c κs =
     let tested = c .before .before in
-    let entry = tested .before .before .before .before .before in
-    let a = asks (entry .args .store .now) (c .before .edition1 .ensures) (is-store (tested .before .is-store1 .ensures) (tested .if1 .left)) in
-    (a .0, a .1, entry .pre)
+    let start = entry tested in
+    let a = asks (start .args .store .now) (c .before .edition1 .ensures) (is-store (tested .before .is-store1 .ensures) (tested .if1 .left)) in
+    (a .0, a .1, start .pre)
 
 written-requires : tie.Need-written-requires
 written-requires c κs =
     let looked = c .before .before in
     let tested = looked .before .before .before in
-    let entry = tested .before .before .before .before .before in
-    length-held (looked .look .ensures [] no-bytes) (entry .good .1 .1 .1 .0 .1)
+    let start = entry tested in
+    length-held (looked .look .ensures [] no-bytes) (start .good .1 .1 .1 .0 .1)
 
 same-length : tie.Need-same-length
 same-length c = search needs

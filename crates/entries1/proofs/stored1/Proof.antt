@@ -50,9 +50,10 @@ returns c =
 
 returns-2 : tie.Need-returns-2
 returns-2 c =
-    let start = c .before .before .before .before in
+    let known = c .before .before in
+    let start = known .before .before in
     let a = start .args in
-    c .one .ensures ∙ sym (ap (λ (q : Request1). storedOf q (a .count) (a .n)) (c .before .before .request .given .1))
+    c .one .ensures ∙ sym (ap (λ (q : Request1). storedOf q (a .count) (a .n)) (known .request .given .1))
 
 returns-3 : tie.Need-returns-3
 returns-3 c =
