@@ -15,16 +15,27 @@
  * length that it wrote, and leaves the bytes behind it as they were.
  *
  * A refusal is the negated number of the first row that applies (README.md, "What a refusal means"), and
- * SULGHETI_CORRUPT for row 0. SULGHETI_NO_STORE is no row: the store's length is that of no store. Where a
- * call is refused, every byte that was lent is as it was.
+ * SULGHETI_CORRUPT for row 0. SULGHETI_NO_STORE is no row: the store's length is that of no store that the call
+ * serves.
  *
- * Records. Numbers are unsigned, low byte first; bytes of the marks are hexadecimal, widths in brackets.
- *   List: 4C 53, number of sites (2); then for each site 53 54, first depot (1), second depot (1), litres (2).
- *   Plan: 50 4C, number of groups (1), number of sites (2); then for each group, heaviest first, 47 52 and
- *         its set (8), in which bit n, worth 2 to the n, stands for depot n; then for each site, in the
- *         list's order, 53 48 and s (4).
- * Depots are 0 to 63, litres 1 to 65,535, sites at most 512 and counted from 0. A site with one depot twice
- * is an own site.
+ * Records. Numbers are unsigned, low byte first; bytes of the marks are hexadecimal, widths in brackets. Lists and
+ * plans are of edition 1 or 2, which differ in marks and widths alone:
+ *                                                                                     edition 1    edition 2
+ *   List: mark, number of sites (2);                                                  4C 53        4C 32
+ *         then for each site: mark, first depot (1), second depot (1), litres         53 54, (2)   53 32, (4)
+ *   Plan: mark, number of groups (1), number of sites (2);                            50 4C        50 32
+ *         then for each group, heaviest first: mark, its set (8), in which            47 52        47 52
+ *         bit n, worth 2 to the n, stands for depot n;
+ *         then for each site, in the list's order: mark, s                            53 48, (4)   53 33, (8)
+ * Depots are 0 to 63, sites at most 512 and counted from 0; litres 1 to 65,535 in edition 1 and 1 to 4,294,967,295
+ * in edition 2. A site with one depot twice is an own site. A list that does not begin 4C 32 is read as one of
+ * edition 1, whose row 1 refuses it where it does not begin 4C 53.
+ *
+ * Which calls serve which edition. Check and Make take a list of either edition; a plan passes only with a list of
+ * its own edition, and row 7 refuses the other; Make writes in the list's edition. A store is of edition 1 or 2 too,
+ * told by its length, and takes lists and plans of its own edition only: row 1 or row 7 refuses the other. All calls
+ * of the desk but fresh, change and add have one function for either edition. Those three serve edition 1, and
+ * fresh2, change2 and add2 serve edition 2: litres are 16 bits in the one and 32 in the other.
  *
  * Figures. A site is carried by the later of its two depots' groups. Of a group:
  *   q  its size, the number of its depots
@@ -38,26 +49,32 @@
 #include <stddef.h>
 #include <stdint.h>
 
-/* The longest list (512 sites) and the longest plan (64 groups, 512 sites), in bytes. */
+/* The longest list (512 sites) and the longest plan (64 groups, 512 sites), in bytes: of edition 1, and of edition 2. */
 #define SULGHETI_LIST_MAX 3076
 #define SULGHETI_PLAN_MAX 3717
+#define SULGHETI_LIST2_MAX 4100
+#define SULGHETI_PLAN2_MAX 5765
 
 /* A desk is a store of exactly so many bytes, and a table of so many bytes for each place, of any
  * length; bytes behind the last whole place are never changed. All numbers are low byte first.
  * Store: number of sites (8), whether a plan is held (8; 0 or 1), number of groups (8), 64 sets (8
- * each), 512 shares (4 each). Place: first depot (1), second depot (1), litres (2). The bytes may be
- * kept, moved and used again, store and table together: neither is of use without the other, and the
- * layout is that of this version. */
+ * each), 512 shares (4 each; 8 in edition 2). Place: first depot (1), second depot (1), litres (2; 4 in
+ * edition 2). The bytes may be kept, moved and used again, store and table together: neither is of use
+ * without the other. Layout and length are those of this version: they are the library's own and no file
+ * format, and a later version may make a store of edition 2 longer. A list and a plan are kept in a file as
+ * list and written write them out. */
 #define SULGHETI_STORE_BYTES 2584
 #define SULGHETI_PLACE_BYTES 4
+#define SULGHETI_STORE2_BYTES 4632
+#define SULGHETI_PLACE2_BYTES 6
 
-/* The stack in bytes that suffices for sulgheti_check, for sulgheti_make, for sulgheti_fresh, for a question
- * (share, depot, difference, written, at_least) and for list, and for any other call of the desk (load, change, add,
- * propose). Measured at 512 sites and rounded up; the frames have fixed sizes, and nothing recurses. Under lazy
- * binding the program's first call of memcpy or memset may take more, since the dynamic linker looks the function
- * up on the same stack: some 3 KB where it was measured. The stated figures have room for that, 8,000 bytes or more.
- * tests/c/stack_t.c makes every call on so much and no more, and prints what each wrote. A thread with 128 KB of
- * stack can make every call. */
+/* The stack in bytes that suffices, in either edition, for sulgheti_check, for sulgheti_make, for sulgheti_fresh
+ * and sulgheti_fresh2, for a question (share, depot, difference, written, at_least) and for list, and for any
+ * other call of the desk (load, change, change2, add, add2, propose). Measured at 512 sites and rounded up; the
+ * frames have fixed sizes, and nothing recurses. Under lazy binding the program's first call of memcpy or memset
+ * may take more, since the dynamic linker looks the function up on the same stack: some 3 KB where it was
+ * measured. The stated figures have room for that, 8,000 bytes or more. tests/c/stack_t.c makes every call on so
+ * much and no more, and prints what each wrote. A thread with 128 KB of stack can make every call. */
 #define SULGHETI_STACK_CHECK 49152
 #define SULGHETI_STACK_MAKE 65536
 #define SULGHETI_STACK_FRESH 8192
@@ -67,7 +84,8 @@
 /* Row 0: the store or its table does not hold what a desk can hold. */
 #define SULGHETI_CORRUPT (-256)
 
-/* No row: store_len is not SULGHETI_STORE_BYTES. */
+/* No row: store_len is neither SULGHETI_STORE_BYTES nor SULGHETI_STORE2_BYTES; for fresh, change and add that it is not
+ * the first, for fresh2, change2 and add2 that it is not the second. */
 #define SULGHETI_NO_STORE (-257)
 
 #ifdef __cplusplus
@@ -75,36 +93,45 @@ extern "C" {
 #endif
 
 /* 0 where the plan is true of the list, otherwise -row: rows 1 to 6 of the list, 7 to 16 of the plan.
- * Where the list is refused the plan is not read. */
+ * Where the list is refused the plan is not read. A list of either edition; a plan of the other is refused by
+ * row 7. */
 int64_t sulgheti_check(const uint8_t *list, size_t list_len, const uint8_t *plan, size_t plan_len);
 
-/* Writes a plan that passes to the front of out and answers its length, 5 + 10 x groups + 6 x sites;
- * otherwise -row: rows 1 to 6 of the list, 20 where out is too short. The bytes behind the plan are
- * unchanged. */
+/* Writes a plan that passes, in the edition of the list, to the front of out and answers its length,
+ * 5 + 10 x groups + 6 x sites in edition 1 and 5 + 10 x groups + 10 x sites in edition 2; otherwise -row: rows 1
+ * to 6 of the list, 20 where out is too short. The bytes behind the plan are unchanged. SULGHETI_PLAN2_MAX bytes
+ * always suffice. */
 int64_t sulgheti_make(const uint8_t *list, size_t list_len, uint8_t *out, size_t out_len);
 
-/* The desk. Each call but sulgheti_fresh gets the store and the table as the one before left them.
- * A store of another length than SULGHETI_STORE_BYTES is refused by SULGHETI_NO_STORE by every call,
- * sulgheti_fresh and sulgheti_load too, before any row is tried: nothing that was lent is then changed. Store,
- * table, list, plan and buffer are not even read, as tests/c/read_only_t.c tests on pages that cannot be. */
+/* The desk. Each call but sulgheti_fresh and sulgheti_fresh2 gets the store and the table as the one before left
+ * them. A store whose length is that of no edition is refused by SULGHETI_NO_STORE by every call, load too, and a
+ * store of the other edition by fresh, change, add, fresh2, change2 and add2, before any row is tried: nothing that
+ * was lent is then changed. Store, table, list, plan and buffer are not even read, as tests/c/read_only_t.c tests on
+ * pages that cannot be. */
 
-/* An empty desk: 0. */
+/* An empty desk of edition 1, and of edition 2: 0. */
 int64_t sulgheti_fresh(uint8_t *store, size_t store_len);
+int64_t sulgheti_fresh2(uint8_t *store, size_t store_len);
 
-/* The list becomes the desk's, and no plan is held: 0, or rows 1 to 6; row 2 also where the table has
- * fewer places than the list has sites. */
+/* The list becomes the desk's, and no plan is held: 0, or rows 1 to 6; row 1 also where the list is of the other
+ * edition than the store, row 2 also where the table has fewer places than the list has sites. */
 int64_t sulgheti_load(uint8_t *store, size_t store_len, uint8_t *table, size_t table_len,
                       const uint8_t *list, size_t list_len);
 
-/* A site gets other litres, and no plan is held: 0, or rows 0, 6, 18. */
+/* A site gets other litres, and no plan is held: 0, or rows 0, 6, 18. On a store of edition 1, and of edition 2. */
 int64_t sulgheti_change(uint8_t *store, size_t store_len, uint8_t *table, size_t table_len,
                         size_t site, uint16_t litres);
+int64_t sulgheti_change2(uint8_t *store, size_t store_len, uint8_t *table, size_t table_len,
+                         size_t site, uint32_t litres);
 
-/* A site joins the end, and no plan is held: 0, or rows 0, 2, 5, 6. */
+/* A site joins the end, and no plan is held: 0, or rows 0, 2, 5, 6. On a store of edition 1, and of edition 2. */
 int64_t sulgheti_add(uint8_t *store, size_t store_len, uint8_t *table, size_t table_len,
                      uint8_t first, uint8_t second, uint16_t litres);
+int64_t sulgheti_add2(uint8_t *store, size_t store_len, uint8_t *table, size_t table_len,
+                      uint8_t first, uint8_t second, uint32_t litres);
 
-/* A plan that is true of the list held becomes the plan held: 0, or rows 0, 7 to 16. */
+/* A plan that is true of the list held becomes the plan held: 0, or rows 0, 7 to 16; row 7 also where the plan is
+ * of the other edition than the store. */
 int64_t sulgheti_propose(uint8_t *store, size_t store_len, const uint8_t *table, size_t table_len,
                          const uint8_t *plan, size_t plan_len);
 
@@ -122,8 +149,8 @@ int64_t sulgheti_depot(const uint8_t *store, size_t store_len, const uint8_t *ta
 int64_t sulgheti_difference(const uint8_t *store, size_t store_len, const uint8_t *table, size_t table_len,
                             uint8_t a, uint8_t b, int64_t *difference, uint64_t *divisor);
 
-/* The plan held is written to the front of buffer, whose other bytes are unchanged: its length, or rows
- * 0, 17, 20. */
+/* The plan held is written in the store's edition to the front of buffer, whose other bytes are unchanged: its
+ * length, or rows 0, 17, 20. */
 int64_t sulgheti_written(const uint8_t *store, size_t store_len, const uint8_t *table, size_t table_len,
                          uint8_t *buffer, size_t buffer_len);
 
@@ -137,8 +164,9 @@ int64_t sulgheti_written(const uint8_t *store, size_t store_len, const uint8_t *
 int64_t sulgheti_at_least(const uint8_t *store, size_t store_len, const uint8_t *table, size_t table_len,
                           uint32_t litres, uint64_t *depots);
 
-/* The list held is written to the front of buffer, whose other bytes are unchanged: its length, 4 + 6 x sites, or
- * rows 0, 20. No plan need be held. SULGHETI_LIST_MAX bytes always suffice. What is written, sulgheti_load takes
+/* The list held is written in the store's edition to the front of buffer, whose other bytes are unchanged: its
+ * length, 4 + 6 x sites in edition 1 and 4 + 8 x sites in edition 2, or rows 0, 20. No plan need be held.
+ * SULGHETI_LIST2_MAX bytes always suffice. What is written, sulgheti_load takes into a store of the same edition
  * wherever the table has a place for each site, and the list held is then the same. A list that was loaded is
  * written out, until it is changed or added to, as the bytes that it was loaded from. */
 int64_t sulgheti_list(const uint8_t *store, size_t store_len, const uint8_t *table, size_t table_len,

@@ -4,6 +4,7 @@
 #   none           no input at all
 #   row1 to row6   a list that the row refuses: a wrong head mark, 513 sites, a length that is one short, a wrong site mark, a depot above 63, no litres
 #   full           512 sites: site i is an own site of depot i mod 64, each of 65,535
+#   edition2, ..   lists of edition 2, which the first program refuses by row 1: samples/aquatic.txt, no sites, and 512 sites of 4,294,967,295
 set -euo pipefail
 cd "$(dirname "$0")/.."
 

@@ -16,34 +16,47 @@ hex() {
     od -An -v -tx1 | tr -d ' \n'
 }
 
-# the samples: the plan printed is the stored one, and the plan that Make writes passes Check
+# the samples, in either edition where their litres fit: the plan printed is the stored one, and the plan that Make writes passes Check
 for text in samples/*.txt; do
     name=$(basename "$text")
-    tools/list.sh <"$text" >"$work/list"
-    target/bin/plan <"$work/list" | diff "tests/plans/$name" - || fail "$text: not the stored plan"
-    list=$(hex <"$work/list")
-    read -r _ length bytes < <(echo "make $list 3717" | target/bin/console)
-    [ "$(echo "check $list ${bytes:0:2*length}" | target/bin/console)" = passes ] || fail "$text: its plan does not pass"
+    for edition in '' -2; do
+        [ "$name$edition" != aquatic.txt ] || continue
+        tools/list.sh $edition <"$text" >"$work/list"
+        target/bin/plan <"$work/list" | diff "tests/plans/$name" - || fail "$text $edition: not the stored plan"
+        list=$(hex <"$work/list")
+        read -r _ length bytes < <(echo "make $list 5765" | target/bin/console)
+        [ "$(echo "check $list ${bytes:0:2*length}" | target/bin/console)" = passes ] || fail "$text $edition: its plan does not pass"
+    done
 done
 
 # a desk's list in a file, as README has it: changed, with a site more, written out and read by `plan`; unchanged it is the file that was loaded
-tools/list.sh samples/coast.txt >"$work/list"
-list=$(hex <"$work/list")
 written_out() {
-    read -r _ length bytes < <(printf '%s\n' "load $list" "$@" 'list 3076' | target/bin/console | tail -n 1)
+    read -r _ length bytes < <(printf '%s\n' "$@" 'list 4100' | target/bin/console | tail -n 1)
     printf '%b' "$(sed 's/../\\x&/g' <<<"${bytes:0:2*length}")"
 }
-written_out | cmp - "$work/list" || fail "the list written out is not the one loaded"
-[ "$(written_out 'change 0 900' 'add 8 8 60' | target/bin/plan | head -n 2)" = "16 sites, 8 depots, 4 groups
+tools/list.sh samples/coast.txt >"$work/list"
+list=$(hex <"$work/list")
+written_out "load $list" | cmp - "$work/list" || fail "the list written out is not the one loaded"
+[ "$(written_out "load $list" 'change 0 900' 'add 8 8 60' | target/bin/plan | head -n 2)" = "16 sites, 8 depots, 4 groups
 group 1: depots 1 2 3 carry 2655 litres, 885 each" ] || fail "the list written out is not the desk's"
+tools/list.sh -2 samples/aquatic.txt >"$work/list"
+list=$(hex <"$work/list")
+written_out 'table2 10' "load $list" | cmp - "$work/list" || fail "the list of edition 2 written out is not the one loaded"
+[ "$(written_out 'table2 11' "load $list" 'change 1 4294967295' 'add 6 6 65536' | target/bin/plan | head -n 4)" = "11 sites, 7 depots, 6 groups
+group 1: depot 0 carries 4294967295 litres
+group 2: depot 1 carries 70000 litres
+group 3: depot 6 carries 65536 litres" ] || fail "the list of edition 2 written out is not the desk's"
 
 # the records that document 01 gives
 tools/list.sh <samples/two.txt | cmp - crates/depots/stdin || fail "two.txt: not the sample of depots"
 [ "$(tools/list.sh <samples/t.txt | hex)" = 4c530100535400010a00 ] || fail "t.txt: not T"
+[ "$(tools/list.sh -2 <samples/t.txt | hex)" = 4c320100533200010a000000 ] || fail "t.txt: not T in edition 2"
 
 # a file by name, and its usage
 tools/list.sh samples/two.txt | cmp - crates/depots/stdin || fail "two.txt by name"
-[ "$(tools/list.sh --help)" = 'usage: tools/list.sh [FILE]    writes the list record of the sites in FILE, or on standard input' ] || fail "--help"
+tools/list.sh -2 samples/aquatic.txt | cmp - tests/depots/edition2.in || fail "aquatic.txt by name"
+usage='usage: tools/list.sh [-2] [FILE]    writes the list record, with -2 of edition 2, of the sites in FILE, or on standard input'
+[ "$(tools/list.sh --help)" = "$usage" ] || fail "--help"
 
 # no sites; no newline at the end, comments, leading zeros, carriage returns, a UTF-8 mark, the largest figures
 [ "$(printf '# none\n' | tools/list.sh | target/bin/plan)" = "0 sites, 0 depots, 0 groups" ] || fail "no sites"
@@ -53,6 +66,12 @@ tools/list.sh samples/two.txt | cmp - crates/depots/stdin || fail "two.txt by na
 [ "$(printf '0 1 10 #%*s' 992 '' | tools/list.sh | hex)" = 4c530100535400010a00 ] || fail "a line of 1000 bytes"
 for ((i = 0; i < 512; i++)); do echo "$((i % 64)) $((i % 64)) 65535"; done >"$work/most"
 tools/list.sh <"$work/most" | cmp - tests/depots/full.in || fail "512 sites"
+[ "$(printf '# none\n' | tools/list.sh -2 | target/bin/plan)" = "0 sites, 0 depots, 0 groups" ] || fail "no sites in edition 2"
+[ "$(printf '# none\n' | tools/list.sh -2 | hex)" = 4c320000 ] || fail "no sites in edition 2: not the record"
+[ "$(printf '08 063 0004294967295\n1 2 65536' | tools/list.sh -2 | hex)" = 4c3202005332083fffffffff5332010200000100 ] || fail "two sites in edition 2"
+sed 's/65535$/4294967295/' "$work/most" | tools/list.sh -2 >"$work/list"
+[ "$(target/bin/plan <"$work/list" | sed -n '1p;$p')" = "512 sites, 64 depots, 1 group
+site 511: depot 63 brings 4294967295 of 4294967295 litres" ] || fail "512 sites in edition 2"
 
 # unused WORDS COMMAND ..: the command says the words alone, writes nothing and ends with status 1
 unused() {
@@ -63,11 +82,16 @@ unused() {
     [ ! -s "$work/out" ] || fail "$*: something is written"
     [ "$(cat "$work/said")" = "list.sh: $words" ] || fail "$*: $(cat "$work/said")"
 }
-usage="usage: tools/list.sh [FILE]    writes the list record of the sites in FILE, or on standard input"
 unused "$usage" tools/list.sh samples/t.txt samples/two.txt
+unused "$usage" tools/list.sh samples/t.txt -2
+unused "$usage" tools/list.sh -2 -2
+unused "$usage" tools/list.sh -2 samples/t.txt samples/two.txt
+unused "$usage" tools/list.sh -1
 unused "$usage" tools/list.sh --sites
 unused "$usage" tools/list.sh ''
 unused "$work/nosuch: no such file" tools/list.sh "$work/nosuch"
+unused "$work/nosuch: no such file" tools/list.sh -2 "$work/nosuch"
+unused "line 7: litres above 65535 need a list of edition 2: use the option -2" tools/list.sh samples/aquatic.txt
 unused "samples: a directory, not a file" tools/list.sh samples
 unused "standard input: a directory, not a file" tools/list.sh <samples
 unused "standard input: cannot be read" tools/list.sh <&-
@@ -79,10 +103,10 @@ if command -v dash >/dev/null; then
     unused "needs bash: run tools/list.sh or bash tools/list.sh" dash tools/list.sh samples/t.txt
 fi
 
-# refused TEXT LINE WORDS: list.sh names the line
+# refused TEXT LINE WORDS [OPTION]: list.sh names the line
 refused() {
     printf '%b' "$1" >"$work/text"
-    unused "line $2: $3" tools/list.sh "$work/text"
+    unused "line $2: $3" tools/list.sh ${4-} "$work/text"
 }
 refused '0 1 1\00002\n' 1 'a byte 00 or 01, which no text has'
 refused '0 1 12\n# \0000\n' 2 'a byte 00 or 01, which no text has'
@@ -95,21 +119,27 @@ refused '0 64 9\n' 1 'the second depot is not a number from 0 to 63'
 refused '0 -1 9\n' 1 'the second depot is not a number from 0 to 63'
 refused '0 * 9\n' 1 'the second depot is not a number from 0 to 63'
 refused '0 1 0\n' 1 'the litres are not a number from 1 to 65535'
-refused '0 1 65536\n' 1 'the litres are not a number from 1 to 65535'
+refused '0 1 65536\n' 1 'litres above 65535 need a list of edition 2: use the option -2'
+refused '0 1 4294967295\n' 1 'litres above 65535 need a list of edition 2: use the option -2'
+refused '0 1 4294967296\n' 1 'the litres are not a number from 1 to 65535'
 refused '0 1 18446744073709551617\n' 1 'the litres are not a number from 1 to 65535'
 refused '0 1 9.5' 1 'the litres are not a number from 1 to 65535'
+for litres in 0 4294967296 9999999999 18446744073709551617 -1 70000.5; do
+    refused "0 1 70000\n0 1 $litres\n" 2 'the litres are not a number from 1 to 4294967295' -2
+done
 refused "$(cat "$work/most")\n0 0 1\n" 513 'more than 512 sites'
 
-# said ROW WORDS: the program refuses tests/depots/rowROW.in, in words
+# said ROW RECORD WORDS: the program refuses tests/depots/rowROW.in and the record, of edition 2, in the words
 said() {
-    [ "$(target/bin/plan <"tests/depots/row$1.in")" = "refused $1: $2" ] || fail "row $1"
+    [ "$(target/bin/plan <"tests/depots/row$1.in")" = "refused $1: $3" ] || fail "row $1"
+    [ "$(printf "$2" | target/bin/plan)" = "refused $1: $3" ] || fail "row $1 in edition 2"
 }
-said 1 'the list has under 4 bytes or does not begin with 4C 53'
-said 2 'the list has more than 512 sites'
-said 3 "the list's length is not 4 + 6 x sites"
-said 4 'a site does not begin with 53 54'
-said 5 'a site names a depot above 63'
-said 6 'a site has 0 litres'
-[ "$(target/bin/plan </dev/null)" = "refused 1: the list has under 4 bytes or does not begin with 4C 53" ] || fail "no input"
+said 1 'L2\x00' 'the list has under 4 bytes or begins neither with 4C 53 nor with 4C 32'
+said 2 'L2\x01\x02' 'the list has more than 512 sites'
+said 3 'L2\x01\x00ST\x00\x01\x0A\x00' "the list's length is not 4 + 6 x sites, or 4 + 8 x sites if it begins with 4C 32"
+said 4 'L2\x01\x00ST\x00\x01\x0A\x00\x00\x00' 'a site does not begin with 53 54, or with 53 32 if the list begins with 4C 32'
+said 5 'L2\x01\x00S2\x40\x01\x0A\x00\x00\x00' 'a site names a depot above 63'
+said 6 'L2\x01\x00S2\x00\x01\x00\x00\x00\x00' 'a site has 0 litres'
+[ "$(target/bin/plan </dev/null)" = "refused 1: the list has under 4 bytes or begins neither with 4C 53 nor with 4C 32" ] || fail "no input"
 
 echo "plan.sh: lists in words give the stored plans, and bad ones are refused"

@@ -43,7 +43,7 @@ for name in engine desk; do
     [ "$needed" = "memcpy memset " ] || { echo "lib$name.a needs: $needed"; exit 1; }
 done
 exported=$(nm -g --defined-only "$SULGHETI_LIB/libengine.a" "$SULGHETI_LIB/libdesk.a" | awk 'NF == 3 { print $3 }' | sort)
-declared=$(sed -n 's/^int64_t \(sulgheti_[a-z_]*\)(.*/\1/p' include/sulgheti.h | sort)
+declared=$(sed -n 's/^int64_t \(sulgheti_[a-z0-9_]*\)(.*/\1/p' include/sulgheti.h | sort)
 [ "$exported" = "$declared" ] || { echo "exported: $exported"; echo "declared: $declared"; exit 1; }
 echo "libengine.a, libdesk.a: need memcpy and memset alone, export the $(echo "$declared" | wc -l) functions of the header"
 
@@ -52,7 +52,7 @@ for name in check_t desk_t read_only_t stack_t; do
     "${CC:-cc}" -std=c99 -Wall -Wextra -Werror -O2 -pthread -Wl,-z,now -Iinclude "tests/c/$name.c" "$SULGHETI_LIB/libengine.a" "$SULGHETI_LIB/libdesk.a" -o "target/$name"
     "target/$name" || { echo "$name: failed, status $?"; exit 1; }
 done
-echo "check_t, desk_t, read_only_t, stack_t: from C, T's plan passes and is held, a list is written out and loaded again, questions are asked and the list is written out in memory that cannot be written, a store of another length is not read, every call runs on the stated stack"
+echo "check_t, desk_t, read_only_t, stack_t: from C, in either edition, T's plan passes and is held, a list is written out and loaded again, questions are asked and the list is written out in memory that cannot be written, a store of another length or of the other edition is not read, every call runs on the stated stack"
 
 # the wrapper's example and words, then the cases
 export CARGO_TARGET_DIR=$PWD/target/cargo

@@ -1,11 +1,12 @@
 #!/usr/bin/env bash
 # Turns a list in words into a list record.
 #
-#     tools/list.sh samples/coast.txt > coast.list        # or, from standard input: tools/list.sh < samples/coast.txt
+#     tools/list.sh samples/coast.txt > coast.list          # or, from standard input: tools/list.sh < samples/coast.txt
+#     tools/list.sh -2 samples/aquatic.txt > aquatic.list   # a list of edition 2
 #
 # A site is a line of three decimal numbers apart by spaces or tabs: its first depot, its second depot
-# (0 to 63, the same twice for an own site) and its litres (1 to 65535). Blank lines are passed over,
-# and so is all from a `#` to the end of a line, a carriage return at the end and a UTF-8 mark at the front.
+# (0 to 63, the same twice for an own site) and its litres: 1 to 65535, or with -2 1 to 4294967295. Blank lines
+# are passed over, and so is all from a `#` to the end of a line, a carriage return at the end and a UTF-8 mark at the front.
 # A list has at most 512 sites; a file of blank lines and comments alone is the list without sites.
 # Anything else is refused: a line that is none of these, has a byte 00 or 01 or over 1,000 bytes; an input
 # that has no bytes or over 1,000,000, or cannot be read. One line on standard error says what and where;
@@ -13,7 +14,7 @@
 [ -n "${BASH_VERSION:-}" ] || { echo "list.sh: needs bash: run tools/list.sh or bash tools/list.sh" >&2; exit 1; }
 set -euf -o pipefail
 export LC_ALL=C
-usage='usage: tools/list.sh [FILE]    writes the list record of the sites in FILE, or on standard input'
+usage='usage: tools/list.sh [-2] [FILE]    writes the list record, with -2 of edition 2, of the sites in FILE, or on standard input'
 
 refuse() {
     echo "list.sh: $1" >&2
@@ -22,7 +23,7 @@ refuse() {
 
 # whether $1 is a decimal number from $2 to $3
 in_range() {
-    [[ $1 =~ ^0*([0-9]{1,5})$ ]] && ((10#${BASH_REMATCH[1]} >= $2 && 10#${BASH_REMATCH[1]} <= $3))
+    [[ $1 =~ ^0*([0-9]{1,10})$ ]] && ((10#${BASH_REMATCH[1]} >= $2 && 10#${BASH_REMATCH[1]} <= $3))
 }
 
 # appends the number $1 to the record as an escape of each of its $2 bytes, low byte first
@@ -36,6 +37,11 @@ put() {
     done
 }
 
+list=LS site=ST width=2 most=65535
+if [ "${1-}" = -2 ]; then
+    list=L2 site=S2 width=4 most=4294967295
+    shift
+fi
 case $#:${1-} in
 0:)
     name='standard input'
@@ -75,16 +81,19 @@ while IFS= read -r text; do
     [ ${#words[@]} -eq 3 ] || refuse "line $line: not three numbers: FIRST SECOND LITRES"
     in_range "${words[0]}" 0 63 || refuse "line $line: the first depot is not a number from 0 to 63"
     in_range "${words[1]}" 0 63 || refuse "line $line: the second depot is not a number from 0 to 63"
-    in_range "${words[2]}" 1 65535 || refuse "line $line: the litres are not a number from 1 to 65535"
+    if ! in_range "${words[2]}" 1 $most; then
+        in_range "${words[2]}" 1 4294967295 && refuse "line $line: litres above 65535 need a list of edition 2: use the option -2"
+        refuse "line $line: the litres are not a number from 1 to $most"
+    fi
     sites=$((sites + 1))
     [ "$sites" -le 512 ] || refuse "line $line: more than 512 sites"
-    record+=ST
+    record+=$site
     put "${words[0]}" 1
     put "${words[1]}" 1
-    put "${words[2]}" 2
+    put "${words[2]}" $width
 done <<<"${input#$'\xef\xbb\xbf'}"
 
 body=$record
-record=LS
+record=$list
 put "$sites" 2
 printf '%b' "$record$body"

@@ -1,34 +1,73 @@
 //! Check and Make written by hand in plain Rust, for comparison: nothing is proved of them.
+//!
+//! Functions over an edition have the bytes of a place, two depots and litres, as P, those of a site's record, which has
+//! a mark before it, as R, and those of a share as S: 4, 6 and 4 in edition 1, 6, 8 and 8 in edition 2. They are compiled
+//! for each edition by itself.
 
-pub(crate) const LIST: u16 = u16::from_le_bytes(*b"LS");
-pub(crate) const SITE: u16 = u16::from_le_bytes(*b"ST");
-pub(crate) const PLAN: u16 = u16::from_le_bytes(*b"PL");
+use std::ops::{AddAssign, Sub, SubAssign};
+
+use engine_tests::records::{Edition, ONE, TWO};
+
 pub(crate) const GROUP: u16 = u16::from_le_bytes(*b"GR");
-pub(crate) const SHARE: u16 = u16::from_le_bytes(*b"SH");
+
+/// The edition whose places have so many bytes.
+pub(crate) const fn edition(place: usize) -> Edition {
+    if place == 4 {
+        ONE
+    } else {
+        TWO
+    }
+}
 
 pub(crate) fn half(r: &[u8], at: usize) -> u16 {
     u16::from_le_bytes([r[at], r[at + 1]])
 }
 
+/// Litres or a share, in 2, 4 or 8 bytes.
+#[inline(always)]
+pub(crate) fn number(bytes: &[u8]) -> u64 {
+    match *bytes {
+        [a, b] => u64::from(u16::from_le_bytes([a, b])),
+        [a, b, c, d] => u64::from(u32::from_le_bytes([a, b, c, d])),
+        [a, b, c, d, e, f, g, h] => u64::from_le_bytes([a, b, c, d, e, f, g, h]),
+        _ => unreachable!("no number has {} bytes", bytes.len()),
+    }
+}
+
+/// Records of a mark and N bytes.
+pub(crate) fn records<const N: usize>(bytes: &[u8]) -> impl ExactSizeIterator<Item = (u16, &[u8; N])> {
+    bytes.chunks_exact(N + 2).map(|r| (half(r, 0), r.last_chunk().expect("N bytes behind the mark")))
+}
+
+/// A site's record without its mark.
+fn unmarked<const P: usize, const R: usize>(site: &[u8; R]) -> &[u8; P] {
+    site.last_chunk().expect("P bytes behind the mark")
+}
+
+/// Whether a list is read as one of edition 2.
+fn is_second(list: &[u8]) -> bool {
+    list.starts_with(&TWO.list)
+}
+
 /// The site records of a list of at most so many sites that reads, and its listed depots, or the row. One
 /// pass over the records notes what is wrong with any of them; the rows are then answered in order.
-pub(crate) fn read(list: &[u8], most: usize) -> Result<(&[[u8; 6]], u64), i64> {
-    if list.len() < 4 || half(list, 0) != LIST {
+pub(crate) fn read<const P: usize, const R: usize>(list: &[u8], most: usize) -> Result<(&[[u8; R]], u64), i64> {
+    if list.len() < 4 || list[..2] != edition(P).list {
         return Err(1);
     }
     let count = usize::from(half(list, 2));
     if count > most {
         return Err(2);
     }
-    if list.len() != 4 + 6 * count {
+    if list.len() != 4 + R * count {
         return Err(3);
     }
     let (sites, _) = list[4..].as_chunks();
     let (mut marks, mut depots, mut dry, mut listed) = (0, 0, false, 0);
     for r in sites {
-        marks |= half(r, 0) ^ SITE;
+        marks |= half(r, 0) ^ u16::from_le_bytes(edition(P).site);
         depots |= r[2] | r[3];
-        dry |= half(r, 4) == 0;
+        dry |= number(&r[4..]) == 0;
         listed |= 1u64 << (r[2] & 63) | 1u64 << (r[3] & 63);
     }
     if marks != 0 {
@@ -45,24 +84,24 @@ pub(crate) fn read(list: &[u8], most: usize) -> Result<(&[[u8; 6]], u64), i64> {
 
 /// 0 where the plan passes, otherwise -row.
 pub fn check(list: &[u8], plan: &[u8]) -> i64 {
-    match refusal(list, plan) {
+    match if is_second(list) { refusal::<6, 8, 8>(list, plan) } else { refusal::<4, 6, 4>(list, plan) } {
         Ok(()) => 0,
         Err(row) => -row,
     }
 }
 
-fn refusal(list: &[u8], plan: &[u8]) -> Result<(), i64> {
-    let (sites, listed) = read(list, SITES)?;
-    plan_refusal(sites.iter().map(|[_, _, site @ ..]| site), listed, plan)
+fn refusal<const P: usize, const R: usize, const S: usize>(list: &[u8], plan: &[u8]) -> Result<(), i64> {
+    let (sites, listed) = read::<P, R>(list, SITES)?;
+    plan_refusal::<P, S>(sites.iter().map(unmarked), listed, plan)
 }
 
 /// Rows 7 to 16 of a plan for sites that read: first depot, second depot, litres.
-pub(crate) fn plan_refusal<'a>(
-    sites: impl ExactSizeIterator<Item = &'a [u8; 4]>,
+pub(crate) fn plan_refusal<'a, const P: usize, const S: usize>(
+    sites: impl ExactSizeIterator<Item = &'a [u8; P]>,
     listed: u64,
     plan: &[u8],
 ) -> Result<(), i64> {
-    if plan.len() < 5 || half(plan, 0) != PLAN {
+    if plan.len() < 5 || plan[..2] != edition(P).plan {
         return Err(7);
     }
     let count = usize::from(plan[2]);
@@ -72,20 +111,18 @@ pub(crate) fn plan_refusal<'a>(
     if usize::from(half(plan, 3)) != sites.len() {
         return Err(9);
     }
-    if plan.len() != 5 + 10 * count + 6 * sites.len() {
+    if plan.len() != 5 + 10 * count + (S + 2) * sites.len() {
         return Err(10);
     }
     let (groups, shares) = plan[5..].split_at(10 * count);
-    let (groups, _) = groups.as_chunks::<10>();
-    let (shares, _) = shares.as_chunks::<6>();
 
     // one pass over the groups, one over the sites with their shares; sums may wrap where a row refuses
     let (mut marks, mut unfit, mut seen) = (0, false, 0u64);
     let mut place = [0u8; 64];
     let mut size = [0u64; 64];
-    for (k, r) in groups.iter().enumerate() {
-        marks |= half(r, 0) ^ GROUP;
-        let set = u64::from_le_bytes([r[2], r[3], r[4], r[5], r[6], r[7], r[8], r[9]]);
+    for (k, (mark, r)) in records(groups).enumerate() {
+        marks |= mark ^ GROUP;
+        let set = u64::from_le_bytes(*r);
         unfit |= set == 0 || set & seen != 0;
         size[k] = u64::from(set.count_ones());
         let mut rest = set & !seen;
@@ -98,11 +135,10 @@ pub(crate) fn plan_refusal<'a>(
     let mut litres = [0u64; 64];
     let mut load = [0u64; 64];
     let mut wrong = false;
-    for (site, r) in sites.zip(shares) {
-        marks |= half(r, 0) ^ SHARE;
+    for (site, (mark, share)) in sites.zip(records::<S>(shares)) {
+        marks |= mark ^ u16::from_le_bytes(edition(P).share);
         let (first, second) = (usize::from(site[0] & 63), usize::from(site[1] & 63));
-        let w = u64::from(half(site, 2));
-        let s = u64::from(u32::from_le_bytes([r[2], r[3], r[4], r[5]]));
+        let (w, s) = (number(&site[2..]), number(share));
         let (j, k) = (place[first], place[second]);
         let carrier = usize::from(j.max(k) & 63);
         let whole = w * size[carrier];
@@ -144,46 +180,70 @@ pub(crate) fn plan_refusal<'a>(
 /// nested sets; each attempt lays the sites of a set on their first depots and moves share along
 /// residual arcs; a set that comes out level is a group, otherwise its denser part is tried next.
 pub fn make(list: &[u8], out: &mut [u8]) -> i64 {
-    let (sites, listed) = match read(list, SITES) {
-        Ok(read) => read,
-        Err(row) => return -row,
-    };
-    let mut maker = Maker::new(sites);
+    match if is_second(list) { try_make::<6, 8, 8, u64>(list, out) } else { try_make::<4, 6, 4, u32>(list, out) } {
+        Ok(length) => length as i64,
+        Err(row) => -row,
+    }
+}
+
+fn try_make<const P: usize, const R: usize, const S: usize, F: Figure>(
+    list: &[u8],
+    out: &mut [u8],
+) -> Result<usize, i64> {
+    let (sites, listed) = read::<P, R>(list, SITES)?;
+    let mut maker = Maker::<F>::new(sites);
     let (groups, count) = maker.groups(listed);
-    let length = 5 + 10 * count + 6 * sites.len();
+    let length = 5 + 10 * count + (S + 2) * maker.count;
     if out.len() < length {
-        return -20;
+        return Err(20);
     }
     let (head, rest) = out.split_at_mut(5);
-    head[..2].copy_from_slice(&PLAN.to_le_bytes());
+    head[..2].copy_from_slice(&edition(P).plan);
     head[2] = count as u8;
-    head[3..].copy_from_slice(&(sites.len() as u16).to_le_bytes());
+    head[3..].copy_from_slice(&(maker.count as u16).to_le_bytes());
     let (front, rest) = rest.split_at_mut(10 * count);
     for (r, set) in front.chunks_exact_mut(10).zip(groups) {
         r[..2].copy_from_slice(&GROUP.to_le_bytes());
         r[2..].copy_from_slice(&set.to_le_bytes());
     }
-    for (r, share) in rest.chunks_exact_mut(6).zip(&maker.share[..sites.len()]) {
-        r[..2].copy_from_slice(&SHARE.to_le_bytes());
-        r[2..].copy_from_slice(&share.to_le_bytes());
+    for (r, &share) in rest.chunks_exact_mut(S + 2).zip(&maker.share[..maker.count]) {
+        r[..2].copy_from_slice(&edition(P).share);
+        r[2..].copy_from_slice(&share.into().to_le_bytes()[..S]);
     }
-    length as i64
+    Ok(length)
+}
+
+/// Shares and loads: 32 bits hold those of edition 1, 64 those of edition 2.
+trait Figure: Copy + Ord + Default + AddAssign + Sub<Output = Self> + SubAssign + Into<u64> {
+    fn of(x: u64) -> Self;
+}
+
+impl Figure for u32 {
+    fn of(x: u64) -> u32 {
+        x as u32
+    }
+}
+
+impl Figure for u64 {
+    fn of(x: u64) -> u64 {
+        x
+    }
 }
 
 const SITES: usize = 512;
 
 /// Site i has two arcs: i at its first depot, i + 512 at its second.
-struct Maker {
+struct Maker<F> {
     count: usize,
     litres: [u32; SITES],
     ends: [u8; 2 * SITES],
     /// What the depot of each arc has of the site.
-    share: [u32; 2 * SITES],
+    share: [F; 2 * SITES],
     /// The arcs at depot d are arcs[from[d]..from[d + 1]].
     arcs: [u16; 2 * SITES],
     from: [u16; 65],
-    load: [u32; 64],
-    target: [u32; 64],
+    load: [F; 64],
+    target: [F; 64],
 }
 
 fn other(arc: usize) -> usize {
@@ -194,23 +254,23 @@ fn has(set: u64, depot: u8) -> bool {
     set >> (depot & 63) & 1 == 1
 }
 
-impl Maker {
-    fn new(sites: &[[u8; 6]]) -> Maker {
+impl<F: Figure> Maker<F> {
+    fn new<const R: usize>(sites: &[[u8; R]]) -> Maker<F> {
         let mut m = Maker {
             count: sites.len(),
             litres: [0; SITES],
             ends: [0; 2 * SITES],
-            share: [0; 2 * SITES],
+            share: [F::default(); 2 * SITES],
             arcs: [0; 2 * SITES],
             from: [0; 65],
-            load: [0; 64],
-            target: [0; 64],
+            load: [F::default(); 64],
+            target: [F::default(); 64],
         };
         let mut next = [0u16; 65];
         for (i, r) in sites.iter().enumerate() {
             m.ends[i] = r[2];
             m.ends[i + SITES] = r[3];
-            m.litres[i] = u32::from(half(r, 4));
+            m.litres[i] = number(&r[4..]) as u32;
             next[usize::from(r[2] & 63) + 1] += 1;
             next[usize::from(r[3] & 63) + 1] += 1;
         }
@@ -255,25 +315,26 @@ impl Maker {
 
     /// Lays the sites that the set carries on their first depot in it.
     fn lay(&mut self, set: u64, before: u64) {
-        let q = set.count_ones();
-        self.load = [0; 64];
-        let mut litres = 0;
+        let q = u64::from(set.count_ones());
+        let none = F::default();
+        self.load = [none; 64];
+        let mut litres = none;
         for i in 0..self.count {
             let (first, second) = (self.ends[i] & 63, self.ends[i + SITES] & 63);
             let both = 1u64 << first | 1u64 << second;
             if both & set == 0 || both & !(set | before) != 0 {
                 continue;
             }
-            let w = self.litres[i];
-            litres += w;
-            let (one, two) = if has(set, first) { (w * q, 0) } else { (0, w * q) };
+            let w = u64::from(self.litres[i]);
+            litres += F::of(w);
+            let (one, two) = if has(set, first) { (F::of(w * q), none) } else { (none, F::of(w * q)) };
             self.share[i] = one;
             self.share[i + SITES] = two;
             self.load[usize::from(first)] += one;
             self.load[usize::from(second)] += two;
         }
         for d in 0..64 {
-            self.target[d] = if has(set, d as u8) { litres } else { 0 };
+            self.target[d] = if has(set, d as u8) { litres } else { none };
         }
     }
 
@@ -303,7 +364,7 @@ impl Maker {
                 for &arc in self.arcs_at(order[k]) {
                     let opposite = other(usize::from(arc)) & (2 * SITES - 1);
                     let u = self.ends[opposite] & 63;
-                    if self.share[opposite] > 0 && has(set & !reached, u) {
+                    if self.share[opposite] > F::default() && has(set & !reached, u) {
                         let d = usize::from(u);
                         order[n] = u;
                         rank[d] = n as u8;
@@ -334,7 +395,7 @@ impl Maker {
         let (from, to) = (usize::from(self.from[u]), usize::from(self.from[u + 1]));
         for place in from..to {
             let excess = self.load[u] - self.target[u].min(self.load[u]);
-            if excess == 0 {
+            if excess == F::default() {
                 return;
             }
             let arc = usize::from(self.arcs[place]) & (2 * SITES - 1);

@@ -1,8 +1,8 @@
 //! The engine's speed beside hand-written versions, on the largest lists of several families.
 //!
-//!     engine-bench [--rounds N] [--only TEXT]     medians of times
-//!     engine-bench --instructions [--only TEXT]   instructions per call, by valgrind's callgrind
-//!     engine-bench --store [--rounds N] [--only TEXT]   medians of times of the desk's calls
+//!     engine-bench [--rounds N] [--only TEXT] [--edition N]   medians of times
+//!     engine-bench --instructions [..]                        instructions per call, by valgrind's callgrind
+//!     engine-bench --store [..]                               medians of times of the desk's calls
 //!
 //! (`--calls WHICH FAMILY N` is what `--instructions` runs under valgrind.)
 
@@ -14,8 +14,8 @@ use std::hint::black_box;
 use std::process::{exit, Command};
 use std::time::Instant;
 
-use engine_tests::families::{Extent, FAMILIES, LARGEST};
-use engine_tests::records::{list_bytes, listed};
+use engine_tests::families::{Extent, FAMILIES};
+use engine_tests::records::{list_bytes, listed, Edition, EDITIONS};
 use engine_tests::rng::Rng;
 use sulgheti::ffi;
 
@@ -27,13 +27,21 @@ const BATCH: u128 = 40_000;
 
 fn main() {
     let words: Vec<String> = std::env::args().skip(1).collect();
-    let (mut rounds, mut only, mut instructions, mut desk) = (1001, String::new(), false, false);
+    let (mut rounds, mut only, mut editions) = (1001, String::new(), EDITIONS.to_vec());
+    let (mut instructions, mut desk) = (false, false);
     let mut rest = words.iter().map(String::as_str);
     while let Some(word) = rest.next() {
         match word {
             "--instructions" => instructions = true,
             "--store" => desk = true,
             "--rounds" => rounds = figure(rest.next()),
+            "--edition" => {
+                let number = figure(rest.next());
+                editions.retain(|e| e.number == number);
+                if editions.is_empty() {
+                    usage()
+                }
+            }
             "--only" => only = rest.next().unwrap_or_else(|| usage()).to_string(),
             "--calls" => {
                 let (which, family) = (rest.next().unwrap_or_else(|| usage()), figure(rest.next()));
@@ -43,25 +51,35 @@ fn main() {
         }
     }
     let inputs: Vec<Input> = inputs();
-    let chosen = inputs.iter().filter(|i| i.name.contains(&only));
-    if desk {
-        return store::measure(&chosen.collect::<Vec<_>>(), rounds);
+    for edition in editions {
+        let chosen: Vec<&Input> = inputs.iter().filter(|i| i.edition == edition && i.name.contains(&only)).collect();
+        if chosen.is_empty() {
+            continue;
+        }
+        println!("edition {}", edition.number);
+        if desk {
+            store::measure(edition, &chosen, rounds);
+        } else if instructions {
+            measure(&chosen, &counted, ["instructions"; 2], 1.0, 0);
+        } else {
+            measure(&chosen, &|input| timed(input, rounds), ["ns", "µs"], 1000.0, 1);
+        }
     }
-    let measure: &dyn Fn(&Input) -> [f64; 4] = if instructions { &counted } else { &|input| timed(input, rounds) };
-    let unit = if instructions { ["instructions", "instructions"] } else { ["ns", "µs"] };
-    let scale = if instructions { 1.0 } else { 1000.0 };
+}
+
+/// The table of Check and Make: Make's figures are divided by the scale and have so many digits behind the point.
+fn measure(inputs: &[&Input], measured: &dyn Fn(&Input) -> [f64; 4], unit: [&str; 2], scale: f64, digits: usize) {
     println!(
         "| family | sites | depots | groups | check, {0} | by hand | ratio | make, {1} | by hand | ratio |",
         unit[0], unit[1]
     );
     println!("|---|---|---|---|---|---|---|---|---|---|");
     let (mut check, mut make) = (Vec::new(), Vec::new());
-    for input in chosen {
+    for input in inputs {
         compare(input);
-        let [a, b, c, d] = measure(input);
+        let [a, b, c, d] = measured(input);
         check.push(a / b);
         make.push(c / d);
-        let digits = if instructions { 0 } else { 1 };
         println!(
             "| {} | {} | {} | {} | {a:.0} | {b:.0} | {:.2} | {:.digits$} | {:.digits$} | {:.2} |",
             input.name,
@@ -78,7 +96,7 @@ fn main() {
 }
 
 fn usage() -> ! {
-    eprintln!("usage: engine-bench [--instructions | --store] [--rounds N] [--only TEXT]");
+    eprintln!("usage: engine-bench [--instructions | --store] [--rounds N] [--only TEXT] [--edition N]");
     exit(2)
 }
 
@@ -94,6 +112,7 @@ fn summary(ratios: &[f64]) -> String {
 
 /// A largest list and a plan of it.
 struct Input {
+    edition: Edition,
     name: String,
     number: usize,
     sites: usize,
@@ -103,31 +122,41 @@ struct Input {
     plan: Vec<u8>,
 }
 
-/// The lists, the same bytes in every run, with plans of the hand-written Make.
+/// The lists, the same bytes in every run, with plans of the hand-written Make: in edition 1 with litres to 3 and to
+/// 65,535, in edition 2 to 4,294,967,295.
 fn inputs() -> Vec<Input> {
     let mut inputs: Vec<Input> = Vec::new();
-    for (name, family) in FAMILIES {
-        for litres in [3, 65_535] {
-            let sites = family(&mut Rng::new(1), Extent { litres, ..LARGEST });
-            let list = list_bytes(&sites);
-            if inputs.iter().any(|i| i.list == list) {
-                continue;
+    for edition in EDITIONS {
+        for (name, family) in FAMILIES {
+            for litres in [3, edition.most()].into_iter().skip(edition.number - 1) {
+                let sites = family(&mut Rng::new(1), Extent { edition, sites: 512, depots: 64, litres });
+                let list = list_bytes(edition, &sites);
+                if inputs.iter().any(|i| i.list == list) {
+                    continue;
+                }
+                let plan = hand_made(&list);
+                inputs.push(Input {
+                    edition,
+                    name: format!("{name}, to {}", sites.iter().map(|s| s.litres).max().unwrap_or(0)),
+                    number: inputs.len(),
+                    sites: sites.len(),
+                    depots: listed(&sites).count_ones(),
+                    groups: usize::from(plan[2]),
+                    list,
+                    plan,
+                });
             }
-            let mut plan = vec![0; sulgheti::PLAN_MAX];
-            let length = hand::make(&list, &mut plan);
-            plan.truncate(length as usize);
-            inputs.push(Input {
-                name: format!("{name}, to {}", sites.iter().map(|s| s.litres).max().unwrap_or(0)),
-                number: inputs.len(),
-                sites: sites.len(),
-                depots: listed(&sites).count_ones(),
-                groups: usize::from(plan[2]),
-                list,
-                plan,
-            });
         }
     }
     inputs
+}
+
+/// The plan of the hand-written Make.
+fn hand_made(list: &[u8]) -> Vec<u8> {
+    let mut plan = vec![0; sulgheti::PLAN2_MAX];
+    let length = hand::make(list, &mut plan);
+    plan.truncate(usize::try_from(length).expect("a list that reads"));
+    plan
 }
 
 /// Both versions of Make must give the same groups, and each plan must pass both versions of Check.
@@ -168,7 +197,7 @@ fn hand_make(list: &[u8], out: &mut [u8]) -> i64 {
 
 /// Calls one version n times.
 fn calls(which: &str, input: &Input, n: usize) {
-    let mut out = vec![0; sulgheti::PLAN_MAX];
+    let mut out = vec![0; sulgheti::PLAN2_MAX];
     for _ in 0..n {
         black_box(match which {
             "sulgheti_check" => engine_check(black_box(&input.list), black_box(&input.plan)),

@@ -5,11 +5,11 @@ use std::time::Instant;
 
 use engine_tests::damage::{reordered, spoil, Base};
 use engine_tests::families::{scattered, Extent, FAMILIES};
-use engine_tests::records::{list_bytes, listed, members, plan_bytes, Plan, Site};
+use engine_tests::records::{list_bytes, listed, members, number, plan_bytes, Edition, Plan, Site, ONE};
 use engine_tests::rng::Rng;
-use sulgheti::{ffi, LIST_MAX, PLAN_MAX, STORE_BYTES};
+use sulgheti::{ffi, PLAN2_MAX};
 
-use crate::{hand, hand_store, Input, BATCH};
+use crate::{hand_made, hand_store, Input, BATCH};
 
 /// How many desks the calls of a batch go round, so that what a call writes is put back between batches.
 const DESKS: usize = 16;
@@ -17,9 +17,10 @@ const DESKS: usize = 16;
 /// How many random desks both versions must agree on before anything is measured.
 const CASES: usize = 4000;
 
-/// The bytes of a store and its table.
+/// The bytes of a store and its table, of an edition.
 #[derive(Clone, PartialEq, Debug)]
 struct Desk {
+    edition: Edition,
     store: Vec<u8>,
     table: Vec<u8>,
 }
@@ -29,8 +30,8 @@ struct Desk {
 enum Call {
     Fresh,
     Load(Vec<u8>),
-    Change(usize, u16),
-    Add(u8, u8, u16),
+    Change(usize, u32),
+    Add(u8, u8, u32),
     Propose(Vec<u8>),
     Share(usize),
     Depot(u8),
@@ -50,7 +51,7 @@ struct Out {
 
 impl Out {
     fn new() -> Out {
-        Out { figures: [0xA5A5; 2], difference: 0x5A5A, buffer: vec![0xA5; PLAN_MAX] }
+        Out { figures: [0xA5A5; 2], difference: 0x5A5A, buffer: vec![0xA5; PLAN2_MAX] }
     }
 }
 
@@ -59,15 +60,19 @@ type Version = fn(&Call, &mut Desk, &mut Out) -> i64;
 const VERSIONS: [Version; 2] = [by_engine, by_hand];
 
 fn by_engine(call: &Call, desk: &mut Desk, out: &mut Out) -> i64 {
+    let first_edition = desk.edition == ONE;
     let (store, n, table, m) = (desk.store.as_mut_ptr(), desk.store.len(), desk.table.as_mut_ptr(), desk.table.len());
     let [one, two] = &mut out.figures;
     // SAFETY: all parts are valid for their lengths and overlap nothing.
     unsafe {
         match call {
-            Call::Fresh => ffi::sulgheti_fresh(store, n),
+            Call::Fresh if first_edition => ffi::sulgheti_fresh(store, n),
+            Call::Fresh => ffi::sulgheti_fresh2(store, n),
             Call::Load(list) => ffi::sulgheti_load(store, n, table, m, list.as_ptr(), list.len()),
-            Call::Change(site, litres) => ffi::sulgheti_change(store, n, table, m, *site, *litres),
-            Call::Add(first, second, litres) => ffi::sulgheti_add(store, n, table, m, *first, *second, *litres),
+            Call::Change(site, w) if first_edition => ffi::sulgheti_change(store, n, table, m, *site, *w as u16),
+            Call::Change(site, w) => ffi::sulgheti_change2(store, n, table, m, *site, *w),
+            Call::Add(a, b, w) if first_edition => ffi::sulgheti_add(store, n, table, m, *a, *b, *w as u16),
+            Call::Add(a, b, w) => ffi::sulgheti_add2(store, n, table, m, *a, *b, *w),
             Call::Propose(plan) => ffi::sulgheti_propose(store, n, table, m, plan.as_ptr(), plan.len()),
             Call::Share(site) => ffi::sulgheti_share(store, n, table, m, *site, one, two),
             Call::Depot(depot) => ffi::sulgheti_depot(store, n, table, m, *depot, one, two),
@@ -86,7 +91,7 @@ fn by_engine(call: &Call, desk: &mut Desk, out: &mut Out) -> i64 {
 }
 
 fn by_hand(call: &Call, desk: &mut Desk, out: &mut Out) -> i64 {
-    let Desk { store, table } = desk;
+    let Desk { store, table, .. } = desk;
     let [one, two] = &mut out.figures;
     match call {
         Call::Fresh => hand_store::fresh(store),
@@ -117,21 +122,14 @@ fn agree(call: &Call, desk: &mut Desk) -> i64 {
 
 /// A desk with a table of so many bytes that has loaded a list and holds a plan, where one is given. Sites
 /// stand in the other places too.
-fn holding(bytes: usize, list: &[u8], plan: Option<&[u8]>) -> Desk {
-    let mut desk = Desk { store: vec![0xA5; STORE_BYTES], table: vec![1; bytes] };
+fn holding(edition: Edition, bytes: usize, list: &[u8], plan: Option<&[u8]>) -> Desk {
+    let mut desk = Desk { edition, store: vec![0xA5; edition.store_bytes()], table: vec![1; bytes] };
     assert_eq!(agree(&Call::Fresh, &mut desk), 0);
     assert_eq!(agree(&Call::Load(list.to_vec()), &mut desk), 0);
     if let Some(plan) = plan {
         assert_eq!(agree(&Call::Propose(plan.to_vec()), &mut desk), 0);
     }
     desk
-}
-
-fn made(list: &[u8]) -> Vec<u8> {
-    let mut plan = vec![0; PLAN_MAX];
-    let length = hand::make(list, &mut plan);
-    plan.truncate(length as usize);
-    plan
 }
 
 /// A line of the table: what it is called, the desk before each call, and the calls, one for each desk.
@@ -144,23 +142,26 @@ struct Line {
 }
 
 fn lines(input: &Input) -> Vec<Line> {
-    let (list, plan) = (&input.list, &input.plan);
-    let table = 4 * input.sites;
-    let full = holding(table, list, Some(plan));
-    let planless = holding(table, list, None);
+    let (e, list, plan) = (input.edition, &input.list, &input.plan);
+    let table = e.place_bytes() * input.sites;
+    let full = holding(e, table, list, Some(plan));
+    let planless = holding(e, table, list, None);
     // without its last site
-    let mut shorter = list[..list.len() - 6].to_vec();
+    let (mut shorter, last) = {
+        let (front, last) = list.split_at(list.len() - e.site_bytes);
+        (front.to_vec(), last)
+    };
     shorter[2..4].copy_from_slice(&(input.sites as u16 - 1).to_le_bytes());
-    let room = holding(table, &shorter, Some(&made(&shorter)));
-    let last = &list[list.len() - 6..];
-    let depots = members(list[4..].chunks(6).fold(0, |set, r| set | 1 << r[2] | 1 << r[3]));
+    let room = holding(e, table, &shorter, Some(&hand_made(&shorter)));
+    let depots = members(list[4..].chunks(e.site_bytes).fold(0, |set, r| set | 1 << r[2] | 1 << r[3]));
+    let (list_room, plan_room) = (e.list_length(512), e.plan_length(64, 512));
     let site = |i: usize| i * input.sites / DESKS;
     let depot = |i: usize| depots[i * depots.len() / DESKS] as u8;
     // W/q of a depot, rounded down: its group and all before it are read
     let mark = |i: usize| {
         let (mut litres, mut size) = (0, 0);
         assert_eq!(hand_store::depot(&full.store, &full.table, depot(i), &mut litres, &mut size), 0);
-        (litres / size) as u32
+        u32::try_from(litres / size).unwrap_or(u32::MAX)
     };
     let line = |name, desk: &Desk, stays, call: &dyn Fn(usize) -> Call| Line {
         name,
@@ -171,17 +172,17 @@ fn lines(input: &Input) -> Vec<Line> {
     vec![
         line("fresh", &full, true, &|_| Call::Fresh),
         line("load", &full, true, &|_| Call::Load(list.clone())),
-        line("change", &full, false, &|i| Call::Change(site(i), 1 + i as u16)),
-        line("add", &room, false, &|_| Call::Add(last[2], last[3], hand::half(last, 4))),
+        line("change", &full, false, &|i| Call::Change(site(i), 1 + i as u32)),
+        line("add", &room, false, &|_| Call::Add(last[2], last[3], number(&last[4..]) as u32)),
         line("propose, a plan held", &full, true, &|_| Call::Propose(plan.clone())),
         line("propose, none held", &planless, false, &|_| Call::Propose(plan.clone())),
         line("share", &full, true, &|i| Call::Share(site(i))),
         line("depot", &full, true, &|i| Call::Depot(depot(i))),
         line("difference", &full, true, &|i| Call::Difference(depot(i), depot(DESKS - 1 - i))),
-        line("written", &full, true, &|_| Call::Written(PLAN_MAX)),
+        line("written", &full, true, &|_| Call::Written(plan_room)),
         line("at_least", &full, true, &|i| Call::AtLeast(mark(i))),
-        line("list, a plan held", &full, true, &|_| Call::List(LIST_MAX)),
-        line("list, none held", &planless, true, &|_| Call::List(LIST_MAX)),
+        line("list, a plan held", &full, true, &|_| Call::List(list_room)),
+        line("list, none held", &planless, true, &|_| Call::List(list_room)),
     ]
 }
 
@@ -227,8 +228,8 @@ fn timed(line: &Line, rounds: usize) -> [f64; 2] {
 }
 
 /// The table: for each call the means over the lists, and the list with the worst ratio.
-pub fn measure(inputs: &[&Input], rounds: usize) {
-    compare(inputs);
+pub fn measure(edition: Edition, inputs: &[&Input], rounds: usize) {
+    compare(edition, inputs);
     let mut rows: Vec<(&str, Vec<[f64; 2]>)> = Vec::new();
     for input in inputs {
         for (i, line) in lines(input).iter().enumerate() {
@@ -251,7 +252,7 @@ pub fn measure(inputs: &[&Input], rounds: usize) {
 }
 
 /// Every call that is measured, and calls at random desks, some of them damaged: both versions must agree.
-fn compare(inputs: &[&Input]) {
+fn compare(edition: Edition, inputs: &[&Input]) {
     for input in inputs {
         for line in lines(input) {
             for call in &line.calls {
@@ -262,10 +263,11 @@ fn compare(inputs: &[&Input]) {
     let mut rng = Rng::new(1);
     let (mut calls, mut granted, mut refused) = (0, 0, [0; 21]);
     for _ in 0..CASES {
-        let base = random_base(&mut rng);
-        let (list, plan) = (list_bytes(&base.sites), plan_bytes(&base.plan));
-        let bytes = 4 * (base.sites.len() + *rng.pick(&[0, 1, 2, 600])) + rng.below(4);
-        let mut desk = holding(bytes, &list, rng.percent(80).then_some(&plan));
+        let base = random_base(&mut rng, edition);
+        let (list, plan) = (list_bytes(edition, &base.sites), plan_bytes(edition, &base.plan));
+        let place = edition.place_bytes();
+        let bytes = place * (base.sites.len() + *rng.pick(&[0, 1, 2, 600])) + rng.below(place);
+        let mut desk = holding(edition, bytes, &list, rng.percent(80).then_some(&plan));
         if rng.percent(60) {
             for _ in 0..rng.from_to(1, 2) {
                 damage(&mut rng, &mut desk);
@@ -290,25 +292,26 @@ fn compare(inputs: &[&Input]) {
     eprintln!("engine and hand agree on {calls} calls: {granted} granted, refused by row {refused:?}");
 }
 
-fn random_base(rng: &mut Rng) -> Base {
+fn random_base(rng: &mut Rng, edition: Edition) -> Base {
     let (most, depots) = *rng.pick(&[(6, 3), (6, 3), (20, 7), (20, 7), (100, 30), (512, 64)]);
     let sites = if rng.percent(20) { most } else { rng.from_to(0, most) };
-    let e = Extent { sites, depots: rng.from_to(1, depots), litres: *rng.pick(&[3, 100, 65_535]) };
+    let e = Extent { edition, sites, depots: rng.from_to(1, depots), litres: *rng.pick(&[3, 100, edition.most()]) };
     let family = rng.pick(&FAMILIES).1;
     let sites = family(rng, e);
     let sites: Vec<Site> = if rng.percent(50) { scattered(rng, &sites) } else { sites };
-    let bytes = made(&list_bytes(&sites));
+    let bytes = hand_made(&list_bytes(edition, &sites));
     let grouped = usize::from(bytes[2]);
     let (front, back) = bytes[5..].split_at(10 * grouped);
-    let groups = front.chunks(10).map(|r| u64::from_le_bytes(r[2..].try_into().expect("8 bytes"))).collect();
-    let shares = back.chunks(6).map(|r| u32::from_le_bytes(r[2..].try_into().expect("4 bytes"))).collect();
-    Base { sites, plan: Plan { groups, shares } }
+    let groups = front.chunks(10).map(|r| number(&r[2..])).collect();
+    let shares = back.chunks(edition.share_bytes).map(|r| number(&r[2..])).collect();
+    Base { edition, sites, plan: Plan { groups, shares } }
 }
 
 /// Changes the figures of the store, a place, or any bytes; never the store's length.
 fn damage(rng: &mut Rng, desk: &mut Desk) {
     let put = |bytes: &mut [u8], at: usize, with: &[u8]| bytes[at..at + with.len()].copy_from_slice(with);
-    let places = (desk.table.len() / 4) as u64;
+    let (e, place) = (desk.edition, desk.edition.place_bytes());
+    let places = (desk.table.len() / place) as u64;
     let count = u64::from(desk.store[0]) | u64::from(desk.store[1]) << 8;
     let grouped = u64::from(desk.store[16]).clamp(1, 64) as usize;
     let near = (count as usize).clamp(1, 512);
@@ -327,29 +330,29 @@ fn damage(rng: &mut Rng, desk: &mut Desk) {
             desk.store[at] ^= 1 << rng.below(8);
         }
         4 => {
-            let at = 536 + 4 * rng.below(near);
-            let share = *rng.pick(&[0, 1, 40, 4_194_240, u32::MAX]);
-            put(&mut desk.store, at, &share.to_le_bytes());
+            let at = e.store_share(rng.below(near));
+            let share = *rng.pick(&[0, 1, 40, 64 * u64::from(e.most()), e.most_share()]);
+            put(&mut desk.store, at, &e.s(share));
         }
         5 => {
-            let at = 536 + 4 * rng.below(near);
+            let at = e.store_share(rng.below(near));
             desk.store[at] = desk.store[at].wrapping_add(*rng.pick(&[1, 255]));
         }
         6 if places > 0 => {
-            let place = 4 * rng.below(near.min(places as usize));
+            let at = place * rng.below(near.min(places as usize));
             if rng.percent(30) {
-                put(&mut desk.table, place + 2, &[0, 0]);
+                put(&mut desk.table, at + 2, &e.litres(0));
             } else {
-                desk.table[place + rng.below(4)] = *rng.pick(&[0, 1, 2, 63, 64, 255]);
+                desk.table[at + rng.below(place)] = *rng.pick(&[0, 1, 2, 63, 64, 255]);
             }
         }
         7 => {
             let length = desk.table.len();
-            desk.table.truncate(length - rng.below(9).min(length));
+            desk.table.truncate(length - rng.below(2 * place + 1).min(length));
         }
         8 if rng.percent(20) => desk.store.iter_mut().for_each(|b| *b = rng.byte()),
         _ => {
-            let at = rng.below(STORE_BYTES);
+            let at = rng.below(desk.store.len());
             desk.store[at] ^= 1 << rng.below(8);
         }
     }
@@ -364,7 +367,7 @@ fn random_call(rng: &mut Rng, base: &Base) -> Call {
         _ if named.is_empty() => 0,
         _ => *rng.pick(&named) as u8,
     };
-    let litres = |rng: &mut Rng| *rng.pick(&[0, 1, 2, 7, 100, 65_535]);
+    let litres = |rng: &mut Rng| *rng.pick(&[0, 1, 2, 7, 100, 65_535, base.edition.most()]);
     // around the W/q of a group, or anywhere
     let mark = |rng: &mut Rng| {
         let groups = &base.plan.groups;
@@ -375,11 +378,13 @@ fn random_call(rng: &mut Rng, base: &Base) -> Call {
         let k = rng.below(groups.len());
         let place = |depot: u8| groups.iter().position(|g| g >> depot & 1 == 1);
         let carried = base.sites.iter().filter(|s| place(s.first).max(place(s.second)) == Some(k));
-        let w: u32 = carried.map(|s| u32::from(s.litres)).sum();
-        let q = groups[k].count_ones();
-        *rng.pick(&[w / q, w.div_ceil(q), (w / q).saturating_sub(1), w / q + 1, 65_536 + w / q])
+        let w: u64 = carried.map(|s| u64::from(s.litres)).sum();
+        let q = u64::from(groups[k].count_ones());
+        let near = *rng.pick(&[w / q, w.div_ceil(q), (w / q).saturating_sub(1), w / q + 1, 65_536 + w / q]);
+        u32::try_from(near).unwrap_or(u32::MAX)
     };
-    let (mut list, mut plan) = (list_bytes(&base.sites), plan_bytes(&base.plan));
+    let e = base.edition;
+    let (mut list, mut plan) = (list_bytes(e, &base.sites), plan_bytes(e, &base.plan));
     match rng.below(15) {
         0 if rng.percent(20) => Call::Fresh,
         0 | 1 => {
@@ -402,7 +407,7 @@ fn random_call(rng: &mut Rng, base: &Base) -> Call {
                 }
             } else if rng.percent(30) {
                 if let Some(other) = reordered(rng, base) {
-                    plan = plan_bytes(&other);
+                    plan = plan_bytes(e, &other);
                 }
             }
             Call::Propose(plan)
@@ -412,6 +417,6 @@ fn random_call(rng: &mut Rng, base: &Base) -> Call {
         9 | 10 => Call::Difference(depot(rng), depot(rng)),
         11 | 12 => Call::AtLeast(mark(rng)),
         13 => Call::List((list.len() + rng.below(4)).saturating_sub(2)),
-        _ => Call::Written((plan.len() + rng.below(4)).saturating_sub(2).min(PLAN_MAX)),
+        _ => Call::Written((plan.len() + rng.below(4)).saturating_sub(2).min(PLAN2_MAX)),
     }
 }

@@ -1,9 +1,10 @@
 //! Safe calls of the proved engine for fair-load plans.
 //!
-//! A list and a plan are bytes as `include/sulgheti.h` lays them out; it says too what W, q, s and w x q are.
-//! The engine keeps nothing between calls and allocates nothing; a [`Desk`] owns the bytes of its store and its
-//! table. A thread with 128 KB of stack can make every call. `libengine.a` and `libdesk.a`, for x86-64 Linux, are
-//! looked for in the folder that `SULGHETI_LIB` names, or in the repository's `target/staticlib`.
+//! A list and a plan are bytes as `include/sulgheti.h` lays them out, in edition 1 or 2; it says too what W, q, s and
+//! w x q are. [`check`] and [`make`] take either edition. The engine keeps nothing between calls and allocates nothing;
+//! a [`Store`] (edition 1) or a [`Store2`] (edition 2) owns its bytes and its table. A thread with 128 KB of stack can
+//! make every call. `libengine.a` and `libdesk.a`, for x86-64 Linux, are looked for in the folder that `SULGHETI_LIB`
+//! names, or in the repository's `target/staticlib`.
 //!
 //! ```
 //! // One site of 10 litres that depots 0 and 1 supply.
@@ -13,59 +14,107 @@
 //! assert_eq!(sulgheti::check(&list, &out[..n]), Ok(()));
 //! assert_eq!(sulgheti::check(&list, &out[..n - 1]), Err(sulgheti::Row(10)));
 //!
-//! let mut desk = sulgheti::Desk::new(100);
-//! desk.load(&list).unwrap();
-//! assert_eq!(desk.depot(0), Err(sulgheti::Row(17)));
-//! desk.propose(&out[..n]).unwrap();
-//! assert_eq!(desk.depot(0), Ok((10, 2)));
+//! let mut store = sulgheti::Store::new(100);
+//! store.load(&list).unwrap();
+//! assert_eq!(store.depot(0), Err(sulgheti::Row(17)));
+//! store.propose(&out[..n]).unwrap();
+//! assert_eq!(store.depot(0), Ok((10, 2)));
 //! // Who brings at least 5 litres, and who 6: bit n of the set stands for depot n.
-//! assert_eq!(desk.at_least(5), Ok(0b11));
-//! assert_eq!(desk.at_least(6), Ok(0));
+//! assert_eq!(store.at_least(5), Ok(0b11));
+//! assert_eq!(store.at_least(6), Ok(0));
 //! // The list written out is the list that was loaded; a buffer one byte shorter is refused.
 //! let mut file = [0; sulgheti::LIST_MAX];
-//! let length = desk.list(&mut file).unwrap();
+//! let length = store.list(&mut file).unwrap();
 //! assert_eq!(file[..length], list);
-//! assert_eq!(desk.list(&mut file[..length - 1]), Err(sulgheti::Row(20)));
-//! // Questions change nothing: threads may ask one desk at once.
+//! assert_eq!(store.list(&mut file[..length - 1]), Err(sulgheti::Row(20)));
+//! // Questions change nothing: threads may ask one store at once.
 //! std::thread::scope(|threads| {
-//!     threads.spawn(|| assert_eq!(desk.share(0), Ok((10, 20))));
-//!     threads.spawn(|| assert_eq!(desk.difference(0, 1), Ok((0, 4))));
+//!     threads.spawn(|| assert_eq!(store.share(0), Ok((10, 20))));
+//!     threads.spawn(|| assert_eq!(store.difference(0, 1), Ok((0, 4))));
 //! });
-//! // A desk that was kept.
-//! let (store, table) = desk.bytes();
-//! assert_eq!(sulgheti::Desk::from_bytes(*store, table.to_vec()), desk);
-//! desk.change(0, 11).unwrap();
-//! assert_eq!(desk.propose(&out[..n]), Err(sulgheti::Row(15)));
+//! // A store that was kept.
+//! let (bytes, table) = store.bytes();
+//! assert_eq!(sulgheti::Store::from_bytes(*bytes, table.to_vec()), store);
+//! store.change(0, 11).unwrap();
+//! assert_eq!(store.propose(&out[..n]), Err(sulgheti::Row(15)));
 //! assert!(format!("{:?}", sulgheti::Row(15)).starts_with("refused 15: a depot's shares"));
+//! ```
+//!
+//! Edition 2 has litres up to 4,294,967,295, in lists, plans and stores of its own:
+//!
+//! ```
+//! // One site of 70,000 litres (0x11170) that depots 0 and 1 supply, and one of 10 litres in edition 1.
+//! let list2 = [0x4C, 0x32, 1, 0, 0x53, 0x32, 0, 1, 0x70, 0x11, 0x01, 0];
+//! let list = [0x4C, 0x53, 1, 0, 0x53, 0x54, 0, 1, 10, 0];
+//! let mut plan2 = [0; sulgheti::PLAN2_MAX];
+//! let n2 = sulgheti::make(&list2, &mut plan2).unwrap();
+//! let mut plan = [0; sulgheti::PLAN_MAX];
+//! let n = sulgheti::make(&list, &mut plan).unwrap();
+//! // A plan passes with a list of its own edition only.
+//! assert_eq!(sulgheti::check(&list2, &plan2[..n2]), Ok(()));
+//! assert_eq!(sulgheti::check(&list2, &plan[..n]), Err(sulgheti::Row(7)));
+//! assert_eq!(sulgheti::check(&list, &plan2[..n2]), Err(sulgheti::Row(7)));
+//!
+//! // A store takes lists and plans of its own edition only.
+//! let mut store = sulgheti::Store2::new(100);
+//! assert_eq!(store.load(&list), Err(sulgheti::Row(1)));
+//! store.load(&list2).unwrap();
+//! assert_eq!(store.propose(&plan[..n]), Err(sulgheti::Row(7)));
+//! store.propose(&plan2[..n2]).unwrap();
+//! assert_eq!(store.share(0), Ok((70_000, 140_000)));
+//! assert_eq!(store.depot(1), Ok((70_000, 2)));
+//! store.change(0, 4_294_967_295).unwrap();
+//! store.add(1, 2, 65_536).unwrap();
+//! let mut file = [0; sulgheti::LIST2_MAX];
+//! assert_eq!(store.list(&mut file), Ok(20));
+//! assert_eq!(file[..20], *b"L2\x02\x00S2\x00\x01\xFF\xFF\xFF\xFFS2\x01\x02\x00\x00\x01\x00");
+//! assert_eq!(sulgheti::Store::new(100).load(&file[..20]), Err(sulgheti::Row(1)));
 //! ```
 
 use std::fmt;
 
-/// The longest list in bytes: 512 sites. A buffer of this length is never too short for the list held.
+/// The longest list of edition 1 in bytes: 512 sites. A buffer of this length is never too short for the list that a
+/// [`Store`] holds.
 pub const LIST_MAX: usize = 4 + 6 * 512;
 
-/// The longest plan in bytes: 64 groups and 512 sites. A buffer of this length is never too short for a plan, nor for a
-/// list.
+/// The longest plan of edition 1 in bytes: 64 groups and 512 sites. A buffer of this length is never too short for a
+/// plan of edition 1, nor for a list of it.
 pub const PLAN_MAX: usize = 5 + 10 * 64 + 6 * 512;
 
-/// The bytes of a desk's store.
+/// The longest list of edition 2 in bytes. A buffer of this length is never too short for the list that a [`Store2`]
+/// holds, nor for one of edition 1.
+pub const LIST2_MAX: usize = 4 + 8 * 512;
+
+/// The longest plan of edition 2 in bytes. A buffer of this length is never too short for a plan or a list of either
+/// edition.
+pub const PLAN2_MAX: usize = 5 + 10 * 64 + 10 * 512;
+
+/// The bytes of a store of edition 1.
 pub const STORE_BYTES: usize = 24 + 8 * 64 + 4 * 512;
 
-/// The bytes of a place of a desk's table.
+/// The bytes of a place of edition 1's table.
 pub const PLACE_BYTES: usize = 4;
+
+/// The bytes of a store of edition 2: the library's own and no file format; a later version may have more.
+pub const STORE2_BYTES: usize = 24 + 8 * 64 + 8 * 512;
+
+/// The bytes of a place of edition 2's table.
+pub const PLACE2_BYTES: usize = 6;
 
 /// The functions and codes of the archive, as `include/sulgheti.h` has them.
 pub mod ffi {
     /// Row 0, which with a minus sign would be 0.
     pub const CORRUPT: i64 = -256;
 
-    /// No row: the store's length is not [`STORE_BYTES`](crate::STORE_BYTES).
+    /// No row: the store's length is neither [`STORE_BYTES`](crate::STORE_BYTES) nor
+    /// [`STORE2_BYTES`](crate::STORE2_BYTES), or for fresh, change and add that of the other edition.
     pub const NO_STORE: i64 = -257;
 
     extern "C" {
         pub fn sulgheti_check(list: *const u8, list_len: usize, plan: *const u8, plan_len: usize) -> i64;
         pub fn sulgheti_make(list: *const u8, list_len: usize, out: *mut u8, out_len: usize) -> i64;
         pub fn sulgheti_fresh(store: *mut u8, store_len: usize) -> i64;
+        pub fn sulgheti_fresh2(store: *mut u8, store_len: usize) -> i64;
         pub fn sulgheti_load(
             store: *mut u8,
             store_len: usize,
@@ -82,6 +131,14 @@ pub mod ffi {
             site: usize,
             litres: u16,
         ) -> i64;
+        pub fn sulgheti_change2(
+            store: *mut u8,
+            store_len: usize,
+            table: *mut u8,
+            table_len: usize,
+            site: usize,
+            litres: u32,
+        ) -> i64;
         pub fn sulgheti_add(
             store: *mut u8,
             store_len: usize,
@@ -90,6 +147,15 @@ pub mod ffi {
             first: u8,
             second: u8,
             litres: u16,
+        ) -> i64;
+        pub fn sulgheti_add2(
+            store: *mut u8,
+            store_len: usize,
+            table: *mut u8,
+            table_len: usize,
+            first: u8,
+            second: u8,
+            litres: u32,
         ) -> i64;
         pub fn sulgheti_propose(
             store: *mut u8,
@@ -154,64 +220,132 @@ pub mod ffi {
     }
 }
 
-/// Whether the plan is true of the list. Refused by rows 1 to 16.
+/// Whether the plan is true of the list, both in edition 1 or both in edition 2. Refused by rows 1 to 16.
 pub fn check(list: &[u8], plan: &[u8]) -> Result<(), Row> {
     // SAFETY: both slices are valid for their lengths, and the function writes nothing.
     let answer = unsafe { ffi::sulgheti_check(list.as_ptr(), list.len(), plan.as_ptr(), plan.len()) };
     taken(answer).map(|_| ())
 }
 
-/// Writes a plan that passes to the front of `out` and answers its length; the bytes behind it are
-/// unchanged. Refused by rows 1 to 6 and 20, and then all of `out` is unchanged.
+/// Writes a plan that passes, in the list's edition, to the front of `out` and answers its length; the bytes behind it
+/// are unchanged. Refused by rows 1 to 6 and 20, and then all of `out` is unchanged.
 pub fn make(list: &[u8], out: &mut [u8]) -> Result<usize, Row> {
     // SAFETY: both slices are valid for their lengths, and `out` overlaps nothing.
     let answer = unsafe { ffi::sulgheti_make(list.as_ptr(), list.len(), out.as_mut_ptr(), out.len()) };
     taken(answer)
 }
 
-/// A desk: a store and a table of places for sites, both in bytes that it owns.
+mod sealed {
+    pub trait Sealed {}
+    impl Sealed for super::Edition1 {}
+    impl Sealed for super::Edition2 {}
+}
+
+type Fresh = unsafe extern "C" fn(*mut u8, usize) -> i64;
+type Change<Litres> = unsafe extern "C" fn(*mut u8, usize, *mut u8, usize, usize, Litres) -> i64;
+type Add<Litres> = unsafe extern "C" fn(*mut u8, usize, *mut u8, usize, u8, u8, Litres) -> i64;
+
+/// An edition of lists, plans and stores: [`Edition1`] or [`Edition2`], and no other.
+pub trait Edition: sealed::Sealed + Copy + Eq + fmt::Debug {
+    /// Litres as a change and an added site name them.
+    type Litres;
+    /// The bytes of a store, an array of bytes.
+    type Bytes: Copy + Eq + fmt::Debug + AsRef<[u8]> + AsMut<[u8]>;
+    /// The bytes of a place of the table.
+    const PLACE_BYTES: usize;
+    #[doc(hidden)]
+    const ZERO: Self::Bytes;
+    #[doc(hidden)]
+    const FRESH: Fresh;
+    #[doc(hidden)]
+    const CHANGE: Change<Self::Litres>;
+    #[doc(hidden)]
+    const ADD: Add<Self::Litres>;
+}
+
+/// Litres of 16 bits, shares of 32.
+#[derive(Clone, Copy, Debug, PartialEq, Eq)]
+pub enum Edition1 {}
+
+impl Edition for Edition1 {
+    type Litres = u16;
+    type Bytes = [u8; STORE_BYTES];
+    const PLACE_BYTES: usize = PLACE_BYTES;
+    const ZERO: Self::Bytes = [0; STORE_BYTES];
+    const FRESH: Fresh = ffi::sulgheti_fresh;
+    const CHANGE: Change<u16> = ffi::sulgheti_change;
+    const ADD: Add<u16> = ffi::sulgheti_add;
+}
+
+/// Litres of 32 bits, shares of 64.
+#[derive(Clone, Copy, Debug, PartialEq, Eq)]
+pub enum Edition2 {}
+
+impl Edition for Edition2 {
+    type Litres = u32;
+    type Bytes = [u8; STORE2_BYTES];
+    const PLACE_BYTES: usize = PLACE2_BYTES;
+    const ZERO: Self::Bytes = [0; STORE2_BYTES];
+    const FRESH: Fresh = ffi::sulgheti_fresh2;
+    const CHANGE: Change<u32> = ffi::sulgheti_change2;
+    const ADD: Add<u32> = ffi::sulgheti_add2;
+}
+
+/// A store of edition 1: litres come as `u16`, and its bytes are `[u8; STORE_BYTES]`.
+pub type Store = StoreOf<Edition1>;
+
+/// A store of edition 2: litres come as `u32`, and its bytes are `[u8; STORE2_BYTES]`.
+pub type Store2 = StoreOf<Edition2>;
+
+/// The same type as [`Store`].
+pub type Desk = Store;
+
+/// A store of an edition and a table of places for sites, both in bytes that it owns.
 ///
-/// A refused call changes nothing. Row 0 is answered only by a desk made of foreign bytes.
-/// Questions, [`written`](Desk::written) among them, and [`list`](Desk::list) take `&self`: the engine only reads
-/// store and table.
+/// It takes lists and plans of its own edition only: row 1 refuses another list, row 7 another plan. A refused call
+/// changes nothing. Row 0 is answered only by a store made of foreign bytes. Questions, [`written`](StoreOf::written)
+/// among them, and [`list`](StoreOf::list) take `&self`: the engine only reads store and table.
 #[derive(Clone, Debug, PartialEq, Eq)]
-pub struct Desk {
-    store: [u8; STORE_BYTES],
+pub struct StoreOf<E: Edition> {
+    store: E::Bytes,
     table: Vec<u8>,
 }
 
-impl Desk {
-    /// An empty desk with a table of so many places; more than 512 are of no use.
-    pub fn new(places: usize) -> Desk {
-        let mut store = [0; STORE_BYTES];
+impl<E: Edition> StoreOf<E> {
+    /// An empty store with a table of so many places; more than 512 are of no use.
+    pub fn new(places: usize) -> Self {
+        let mut store = E::ZERO;
+        let bytes = store.as_mut();
         // SAFETY: the store is valid for its length.
-        let answer = unsafe { ffi::sulgheti_fresh(store.as_mut_ptr(), store.len()) };
+        let answer = unsafe { E::FRESH(bytes.as_mut_ptr(), bytes.len()) };
         debug_assert_eq!(answer, 0);
-        Desk { store, table: vec![0; PLACE_BYTES * places] }
+        StoreOf { store, table: vec![0; E::PLACE_BYTES * places] }
     }
 
-    /// A desk of bytes that were kept, of any content: every call but a load tries row 0. A slice of another length
-    /// is no store: its `try_into` fails.
-    pub fn from_bytes(store: [u8; STORE_BYTES], table: Vec<u8>) -> Desk {
-        Desk { store, table }
+    /// A store of bytes that were kept, of any content: every call but a load tries row 0. A slice of another length
+    /// is no store of the edition: its `try_into` fails.
+    pub fn from_bytes(store: E::Bytes, table: Vec<u8>) -> Self {
+        StoreOf { store, table }
     }
 
     /// The bytes of the store and of the table, as `include/sulgheti.h` lays them out.
-    pub fn bytes(&self) -> (&[u8; STORE_BYTES], &[u8]) {
+    pub fn bytes(&self) -> (&E::Bytes, &[u8]) {
         (&self.store, &self.table)
     }
 
     /// The pointers and lengths of the store and of the table, to be read.
     fn parts(&self) -> (*const u8, usize, *const u8, usize) {
-        (self.store.as_ptr(), self.store.len(), self.table.as_ptr(), self.table.len())
+        let store = self.store.as_ref();
+        (store.as_ptr(), store.len(), self.table.as_ptr(), self.table.len())
     }
 
     /// The same, to be written.
     fn parts_mut(&mut self) -> (*mut u8, usize, *mut u8, usize) {
-        (self.store.as_mut_ptr(), self.store.len(), self.table.as_mut_ptr(), self.table.len())
+        let store = self.store.as_mut();
+        (store.as_mut_ptr(), store.len(), self.table.as_mut_ptr(), self.table.len())
     }
 
-    /// The list becomes the desk's, and no plan is held. Refused by rows 1 to 6.
+    /// The list becomes the store's, and no plan is held. Refused by rows 1 to 6.
     pub fn load(&mut self, list: &[u8]) -> Result<(), Row> {
         let (store, n, table, m) = self.parts_mut();
         // SAFETY: here and below, all parts are valid for their lengths, what is written is borrowed for writing, and it
@@ -220,17 +354,17 @@ impl Desk {
     }
 
     /// A site gets other litres, and no plan is held. Refused by rows 0, 6 and 18.
-    pub fn change(&mut self, site: usize, litres: u16) -> Result<(), Row> {
+    pub fn change(&mut self, site: usize, litres: E::Litres) -> Result<(), Row> {
         let (store, n, table, m) = self.parts_mut();
         // SAFETY: as above.
-        taken(unsafe { ffi::sulgheti_change(store, n, table, m, site, litres) }).map(|_| ())
+        taken(unsafe { E::CHANGE(store, n, table, m, site, litres) }).map(|_| ())
     }
 
     /// A site joins the end, and no plan is held. Refused by rows 0, 2, 5 and 6.
-    pub fn add(&mut self, first: u8, second: u8, litres: u16) -> Result<(), Row> {
+    pub fn add(&mut self, first: u8, second: u8, litres: E::Litres) -> Result<(), Row> {
         let (store, n, table, m) = self.parts_mut();
         // SAFETY: as above.
-        taken(unsafe { ffi::sulgheti_add(store, n, table, m, first, second, litres) }).map(|_| ())
+        taken(unsafe { E::ADD(store, n, table, m, first, second, litres) }).map(|_| ())
     }
 
     /// A plan that is true of the list held becomes the plan held. Refused by rows 0 and 7 to 16.
@@ -289,18 +423,18 @@ impl Desk {
     /// and 20.
     ///
     /// ```
-    /// let mut desk = sulgheti::Desk::new(2);
-    /// desk.add(0, 1, 9).unwrap();
-    /// desk.add(1, 2, 1).unwrap();
+    /// let mut store = sulgheti::Store::new(2);
+    /// store.add(0, 1, 9).unwrap();
+    /// store.add(1, 2, 1).unwrap();
     /// let mut list = [0xA5; 17];
-    /// assert_eq!(desk.list(&mut list), Ok(16));
+    /// assert_eq!(store.list(&mut list), Ok(16));
     /// assert_eq!(list, *b"LS\x02\x00ST\x00\x01\x09\x00ST\x01\x02\x01\x00\xA5");
-    /// assert_eq!(desk.list(&mut list[..15]), Err(sulgheti::Row(20)));
+    /// assert_eq!(store.list(&mut list[..15]), Err(sulgheti::Row(20)));
     ///
-    /// // Another desk loads what was written, and holds the same list.
-    /// let mut other = sulgheti::Desk::new(2);
+    /// // Another store loads what was written, and holds the same list.
+    /// let mut other = sulgheti::Store::new(2);
     /// other.load(&list[..16]).unwrap();
-    /// assert_eq!(other, desk);
+    /// assert_eq!(other, store);
     /// ```
     pub fn list(&self, buffer: &mut [u8]) -> Result<usize, Row> {
         let (store, n, table, m) = self.parts();
@@ -314,8 +448,8 @@ fn taken(answer: i64) -> Result<usize, Row> {
     match answer {
         0.. => Ok(answer as usize),
         ffi::CORRUPT => Err(Row(0)),
-        // never answered here: a desk's store has its length by its type
-        ffi::NO_STORE => unreachable!("a store of {STORE_BYTES} bytes"),
+        // never answered here: a store has the length of its edition by its type, and its edition's functions
+        ffi::NO_STORE => unreachable!("a store of another length"),
         _ => Err(Row(answer.unsigned_abs() as u8)),
     }
 }
@@ -327,17 +461,17 @@ pub struct Row(pub u8);
 /// What each row means and what to do about it, by number, in the words of README.md.
 const TEXTS: [(&str, &str); 21] = [
     ("the desk or its table does not hold what a desk can hold", "the memory lent to the desk was overwritten: begin with a fresh desk and load the list again"),
-    ("the list has under 4 bytes or does not begin with 4C 53", "is this a list at all? give its bytes from the first on"),
+    ("the list has under 4 bytes or does not begin with 4C 53 or, in edition 2, 4C 32; or it is loaded and of the other edition than the desk", "is this a list at all? give its bytes from the first on; load it into a desk of its own edition"),
     ("the list has more than 512 sites, or more than the desk's table has places; or a site is added and there is no place left", "split the list, or lend a longer table"),
-    ("the list's length is not 4 + 6 x sites", "it was cut off, something follows it, or the count is wrong"),
-    ("a site does not begin with 53 54", "a record is damaged or has not 6 bytes: write the list again"),
+    ("the list's length is not 4 + 6 x sites or, in edition 2, 4 + 8 x sites", "it was cut off, something follows it, or the count is wrong"),
+    ("a site does not begin with 53 54 or, in edition 2, 53 32", "a record is damaged or has not 6 bytes (edition 2: 8): write the list again"),
     ("a site names a depot above 63", "number the depots from 0 to 63"),
     ("a site has 0 litres", "leave the site out, or give its litres"),
-    ("the plan has under 5 bytes or does not begin with 50 4C", "is this a plan at all? give its bytes from the first on"),
+    ("the plan has under 5 bytes or does not begin with 50 4C or, for a list of edition 2, 50 32", "is this a plan at all, and of the list's edition? give its bytes from the first on"),
     ("the plan has more than 64 groups", "no list has so many: a depot is in one group only"),
     ("the plan's site count is not the list's", "use the plan that belongs to this list"),
-    ("the plan's length is not 5 + 10 x groups + 6 x sites", "it was cut off, something follows it, or a count is wrong"),
-    ("a group does not begin with 47 52, or a share not with 53 48", "a record is damaged: write the plan again"),
+    ("the plan's length is not 5 + 10 x groups + 6 x sites or, in edition 2, 5 + 10 x groups + 10 x sites", "it was cut off, something follows it, or a count is wrong"),
+    ("a group does not begin with 47 52, or a share not with 53 48 or, in edition 2, 53 33", "a record is damaged: write the plan again"),
     ("a group is empty or meets an earlier one", "put each depot into one group, and leave empty groups out"),
     ("the groups together are not the listed depots", "group every depot that a site names, and no other"),
     ("a share is above w x q, an own site is not whole, or a depot of an earlier group has a share", "give shares in q-ths of a litre, q the size of the later of the site's two groups, and all of the site to the depot in that group"),
@@ -346,7 +480,7 @@ const TEXTS: [(&str, &str); 21] = [
     ("no plan is held", "propose a plan that passes first; a load, a change or an added site drops the plan held"),
     ("the site number is not on the desk", "sites are counted from 0: load or add the site first"),
     ("no site names the depot", "ask for a listed depot"),
-    ("the buffer is shorter than the plan, or than the list that is written out", "lend 5 + 10 x groups + 6 x sites bytes for a plan, 4 + 6 x sites for a list; 3,717 always suffice"),
+    ("the buffer is shorter than the plan, or than the list that is written out", "lend 5 + 10 x groups + 6 x sites bytes for a plan, 4 + 6 x sites for a list (edition 2: 10 and 8 x sites); 3,717 always suffice (edition 2: 5,765)"),
 ];
 
 impl Row {
@@ -378,7 +512,7 @@ impl std::error::Error for Row {}
 
 #[cfg(test)]
 mod tests {
-    use super::{ffi, Row, LIST_MAX, PLACE_BYTES, PLAN_MAX, STORE_BYTES};
+    use super::*;
 
     #[test]
     fn figures_are_those_of_the_header() {
@@ -388,6 +522,10 @@ mod tests {
             ("PLAN_MAX", PLAN_MAX),
             ("STORE_BYTES", STORE_BYTES),
             ("PLACE_BYTES", PLACE_BYTES),
+            ("LIST2_MAX", LIST2_MAX),
+            ("PLAN2_MAX", PLAN2_MAX),
+            ("STORE2_BYTES", STORE2_BYTES),
+            ("PLACE2_BYTES", PLACE2_BYTES),
         ];
         for (name, bytes) in sizes {
             assert!(header.contains(&format!("\n#define SULGHETI_{name} {bytes}\n")), "{name}");

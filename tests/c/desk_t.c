@@ -1,9 +1,10 @@
-/* A desk with T: its list is written out, its plan is held, its figures are answered, and an added site drops it; the list goes into another desk and out again. */
+/* A desk with T: its list is written out, its plan is held, its figures are answered, and an added site drops it; the list goes into another desk and out again.
+ * And a desk of edition 2 with a site of 70,000 litres, beside one of edition 1. */
 #include <string.h>
 
 #include "sulgheti.h"
 
-int main(void) {
+static int edition1(void) {
     const uint8_t list[] = {0x4C, 0x53, 1, 0, 0x53, 0x54, 0, 1, 10, 0};
     const uint8_t plan[] = {0x50, 0x4C, 1, 1, 0, 0x47, 0x52, 3, 0, 0, 0, 0, 0, 0, 0, 0x53, 0x48, 10, 0, 0, 0};
     uint8_t store[SULGHETI_STORE_BYTES], table[8 * SULGHETI_PLACE_BYTES], out[SULGHETI_PLAN_MAX];
@@ -52,4 +53,70 @@ int main(void) {
     if (sulgheti_list(store, sizeof store, table, sizeof table, out, sizeof out) != SULGHETI_CORRUPT || memcmp(out, both, sizeof both) != 0) return 34;
     if (sulgheti_at_least(store, sizeof store, table, sizeof table, 5, &set) != SULGHETI_CORRUPT || set != 0) return 35;
     return sulgheti_depot(store, sizeof store, table, sizeof table, 0, &x, &y) == SULGHETI_CORRUPT ? 0 : 36;
+}
+
+static int edition2(void) {
+    const uint8_t list1[] = {0x4C, 0x53, 1, 0, 0x53, 0x54, 0, 1, 10, 0};
+    const uint8_t plan1[] = {0x50, 0x4C, 1, 1, 0, 0x47, 0x52, 3, 0, 0, 0, 0, 0, 0, 0, 0x53, 0x48, 10, 0, 0, 0};
+    const uint8_t list[] = {0x4C, 0x32, 1, 0, 0x53, 0x32, 0, 1, 0x70, 0x11, 1, 0};
+    const uint8_t plan[] = {0x50, 0x32, 1, 1, 0, 0x47, 0x52, 3, 0, 0, 0, 0, 0, 0, 0, 0x53, 0x33, 0x70, 0x11, 1, 0, 0, 0, 0, 0};
+    uint8_t store[SULGHETI_STORE2_BYTES], table[8 * SULGHETI_PLACE2_BYTES], out[SULGHETI_PLAN2_MAX], kept[SULGHETI_STORE2_BYTES];
+    uint64_t x = 0, y = 0, set = 99;
+    int64_t d = 1;
+    memset(store, 0x77, sizeof store);
+    memset(table, 0xA5, sizeof table);
+    memset(out, 0xA5, sizeof out);
+    /* a store of the other edition is no store of fresh, change, add or their "2" forms */
+    if (sulgheti_fresh(store, sizeof store) != SULGHETI_NO_STORE || store[0] != 0x77 || memcmp(store, store + 1, sizeof store - 1) != 0) return 1;
+    if (sulgheti_fresh2(store, SULGHETI_STORE_BYTES) != SULGHETI_NO_STORE || memcmp(store, store + 1, sizeof store - 1) != 0) return 2;
+    if (sulgheti_fresh2(store, sizeof store - 1) != SULGHETI_NO_STORE || sulgheti_fresh2(store, sizeof store) != 0) return 3;
+    if (sulgheti_list(store, sizeof store, table, sizeof table, out, 4) != 4 || memcmp(out, "L2\0\0\xA5", 5) != 0) return 4;
+    /* its own edition's lists and plans only */
+    if (sulgheti_load(store, sizeof store, table, sizeof table, list1, sizeof list1) != -1) return 5;
+    if (sulgheti_load(store, sizeof store, table, sizeof table, list, sizeof list) != 0 || memcmp(table, "\x00\x01\x70\x11\x01\x00\xA5", 7) != 0) return 6;
+    if (sulgheti_propose(store, sizeof store, table, sizeof table, plan1, sizeof plan1) != -7) return 7;
+    if (sulgheti_make(list, sizeof list, out, sizeof out) != (int64_t)sizeof plan || memcmp(out, plan, sizeof plan) != 0) return 8;
+    if (sulgheti_propose(store, sizeof store, table, sizeof table, out, sizeof plan) != 0) return 9;
+    if (sulgheti_depot(store, sizeof store, table, sizeof table, 0, &x, &y) != 0 || x != 70000 || y != 2) return 10;
+    if (sulgheti_share(store, sizeof store, table, sizeof table, 0, &x, &y) != 0 || x != 70000 || y != 140000) return 11;
+    if (sulgheti_difference(store, sizeof store, table, sizeof table, 0, 1, &d, &y) != 0 || d != 0 || y != 4) return 12;
+    if (sulgheti_at_least(store, sizeof store, table, sizeof table, 35000, &set) != 0 || set != 3) return 13;
+    if (sulgheti_at_least(store, sizeof store, table, sizeof table, 35001, &set) != 0 || set != 0) return 14;
+    memset(out, 0xA5, sizeof out);
+    if (sulgheti_written(store, sizeof store, table, sizeof table, out, sizeof plan - 1) != -20 || out[0] != 0xA5) return 15;
+    if (sulgheti_written(store, sizeof store, table, sizeof table, out, sizeof out) != (int64_t)sizeof plan) return 16;
+    if (memcmp(out, plan, sizeof plan) != 0 || out[sizeof plan] != 0xA5) return 17;
+    memcpy(kept, store, sizeof store);
+    if (sulgheti_change(store, sizeof store, table, sizeof table, 0, 11) != SULGHETI_NO_STORE) return 18;
+    if (sulgheti_add(store, sizeof store, table, sizeof table, 1, 2, 1) != SULGHETI_NO_STORE) return 19;
+    if (sulgheti_change2(store, sizeof store, table, sizeof table, 0, 0) != -6 || sulgheti_change2(store, sizeof store, table, sizeof table, 1, 1) != -18) return 20;
+    if (sulgheti_add2(store, sizeof store, table, sizeof table, 64, 2, 1) != -5 || memcmp(kept, store, sizeof store) != 0) return 21;
+    if (sulgheti_change2(store, sizeof store, table, sizeof table, 0, 4294967295) != 0) return 22;
+    if (sulgheti_add2(store, sizeof store, table, sizeof table, 1, 2, 65536) != 0) return 23;
+    if (sulgheti_depot(store, sizeof store, table, sizeof table, 0, &x, &y) != -17) return 24;
+    /* the list of two sites, into another desk of edition 2 and out again; a desk of edition 1 does not take it, nor change2 and add2 that desk */
+    const uint8_t both[] = {0x4C, 0x32, 2, 0, 0x53, 0x32, 0, 1, 255, 255, 255, 255, 0x53, 0x32, 1, 2, 0, 0, 1, 0};
+    uint8_t other[SULGHETI_STORE2_BYTES], places[2 * SULGHETI_PLACE2_BYTES], again[sizeof both + 1], old[SULGHETI_STORE_BYTES];
+    memset(again, 0xA5, sizeof again);
+    if (sulgheti_list(store, sizeof store, table, sizeof table, out, sizeof out) != (int64_t)sizeof both) return 25;
+    if (memcmp(out, both, sizeof both) != 0 || sulgheti_fresh2(other, sizeof other) != 0 || sulgheti_fresh(old, sizeof old) != 0) return 26;
+    if (sulgheti_load(other, sizeof other, places, sizeof places, out, sizeof both) != 0) return 27;
+    if (sulgheti_list(other, sizeof other, places, sizeof places, again, sizeof again) != (int64_t)sizeof both) return 28;
+    if (memcmp(again, both, sizeof both) != 0 || again[sizeof both] != 0xA5) return 29;
+    if (sulgheti_load(old, sizeof old, places, sizeof places, both, sizeof both) != -1) return 30;
+    if (sulgheti_add2(old, sizeof old, places, sizeof places, 0, 1, 10) != SULGHETI_NO_STORE) return 31;
+    if (sulgheti_load(old, sizeof old, places, sizeof places, list1, sizeof list1) != 0) return 32;
+    if (sulgheti_change2(old, sizeof old, places, sizeof places, 0, 10) != SULGHETI_NO_STORE) return 33;
+    if (sulgheti_propose(old, sizeof old, places, sizeof places, plan, sizeof plan) != -7) return 34;
+    if (sulgheti_propose(old, sizeof old, places, sizeof places, plan1, sizeof plan1) != 0) return 35;
+    table[0] = 64;
+    if (sulgheti_list(store, sizeof store, table, sizeof table, out, sizeof out) != SULGHETI_CORRUPT || memcmp(out, both, sizeof both) != 0) return 36;
+    return sulgheti_depot(store, sizeof store, table, sizeof table, 0, &x, &y) == SULGHETI_CORRUPT ? 0 : 37;
+}
+
+int main(void) {
+    const int failed = edition1();
+    if (failed != 0) return failed;
+    const int failed2 = edition2();
+    return failed2 == 0 ? 0 : 100 + failed2;
 }

@@ -1,5 +1,5 @@
-/* Every exported call, at 512 sites, on a stack of the bytes that the header states: valid calls, calls that each row refuses, and
- * calls on a damaged desk. Each runs on a thread whose stack is memory of this program, with pages below it that cannot be touched;
+/* Every exported call, at 512 sites, in either edition, on a stack of the bytes that the header states: valid calls, calls that each
+ * row refuses, and calls on a damaged desk. Each runs on a thread whose stack is memory of this program, with pages below it that cannot be touched;
  * what the stack has above the stated bytes is passed over before the call, so that a call that needs more faults, and is named.
  * Prints the most that each call was seen to write: its own stack alone where the program is linked with -z now, so that nothing
  * is looked up within a call. */
@@ -16,13 +16,12 @@
 #include "sulgheti.h"
 
 /* What the calls are given; the buffers stand at odd addresses, since no alignment is asked of them. */
-static uint64_t rooms[5][640];
+static uint64_t rooms[5][800];
 static uint8_t *const store = (uint8_t *)rooms[0] + 1, *const table = (uint8_t *)rooms[1] + 1, *const list = (uint8_t *)rooms[2] + 1;
 static uint8_t *const plan = (uint8_t *)rooms[3] + 1, *const out = (uint8_t *)rooms[4] + 1;
-static size_t store_len = SULGHETI_STORE_BYTES, table_len = 512 * SULGHETI_PLACE_BYTES, out_len = SULGHETI_PLAN_MAX, list_len, plan_len, site;
+static size_t store_len, table_len, out_len, list_len, plan_len, site;
 static uint8_t first, second;
-static uint16_t litres;
-static uint32_t mark;
+static uint32_t litres, mark;
 static uint64_t x, y;
 static int64_t d;
 
@@ -31,8 +30,11 @@ static int64_t check(void) { return sulgheti_check(list, list_len, plan, plan_le
 static int64_t make(void) { return sulgheti_make(list, list_len, out, out_len); }
 static int64_t fresh(void) { return sulgheti_fresh(store, store_len); }
 static int64_t load(void) { return sulgheti_load(DESK, list, list_len); }
-static int64_t change(void) { return sulgheti_change(DESK, site, litres); }
-static int64_t add(void) { return sulgheti_add(DESK, first, second, litres); }
+static int64_t change(void) { return sulgheti_change(DESK, site, (uint16_t)litres); }
+static int64_t add(void) { return sulgheti_add(DESK, first, second, (uint16_t)litres); }
+static int64_t fresh2(void) { return sulgheti_fresh2(store, store_len); }
+static int64_t change2(void) { return sulgheti_change2(DESK, site, litres); }
+static int64_t add2(void) { return sulgheti_add2(DESK, first, second, litres); }
 static int64_t propose(void) { return sulgheti_propose(DESK, plan, plan_len); }
 static int64_t share(void) { return sulgheti_share(DESK, site, &x, &y); }
 static int64_t depot(void) { return sulgheti_depot(DESK, first, &x, &y); }
@@ -41,18 +43,35 @@ static int64_t written(void) { return sulgheti_written(DESK, out, out_len); }
 static int64_t at_least(void) { return sulgheti_at_least(DESK, mark, &x); }
 static int64_t list_out(void) { return sulgheti_list(DESK, out, out_len); }
 
-enum { CHECK, MAKE, FRESH, LOAD, CHANGE, ADD, PROPOSE, SHARE, DEPOT, DIFFERENCE, WRITTEN, AT_LEAST, LIST, CALLS };
+/* Those that serve either edition, and the three of edition 1 and the three of edition 2, in one order. */
+enum { CHECK, MAKE, LOAD, PROPOSE, SHARE, DEPOT, DIFFERENCE, WRITTEN, AT_LEAST, LIST, FRESH, CHANGE, ADD, FRESH2, CHANGE2, ADD2, CALLS };
+enum { EACH = FRESH2 - FRESH };
 static struct {
     const char *name;
     int64_t (*call)(void);
-    size_t stated, seen;
+    size_t stated, seen[2];
 } calls[CALLS] = {
-    {"check", check, SULGHETI_STACK_CHECK, 0}, {"make", make, SULGHETI_STACK_MAKE, 0}, {"fresh", fresh, SULGHETI_STACK_FRESH, 0},
-    {"load", load, SULGHETI_STACK_DESK, 0}, {"change", change, SULGHETI_STACK_DESK, 0}, {"add", add, SULGHETI_STACK_DESK, 0},
-    {"propose", propose, SULGHETI_STACK_DESK, 0}, {"share", share, SULGHETI_STACK_QUESTION, 0}, {"depot", depot, SULGHETI_STACK_QUESTION, 0},
-    {"difference", difference, SULGHETI_STACK_QUESTION, 0}, {"written", written, SULGHETI_STACK_QUESTION, 0},
-    {"at_least", at_least, SULGHETI_STACK_QUESTION, 0}, {"list", list_out, SULGHETI_STACK_QUESTION, 0},
+    {"check", check, SULGHETI_STACK_CHECK, {0}}, {"make", make, SULGHETI_STACK_MAKE, {0}}, {"load", load, SULGHETI_STACK_DESK, {0}},
+    {"propose", propose, SULGHETI_STACK_DESK, {0}}, {"share", share, SULGHETI_STACK_QUESTION, {0}}, {"depot", depot, SULGHETI_STACK_QUESTION, {0}},
+    {"difference", difference, SULGHETI_STACK_QUESTION, {0}}, {"written", written, SULGHETI_STACK_QUESTION, {0}},
+    {"at_least", at_least, SULGHETI_STACK_QUESTION, {0}}, {"list", list_out, SULGHETI_STACK_QUESTION, {0}},
+    {"fresh", fresh, SULGHETI_STACK_FRESH, {0}}, {"change", change, SULGHETI_STACK_DESK, {0}}, {"add", add, SULGHETI_STACK_DESK, {0}},
+    {"fresh2", fresh2, SULGHETI_STACK_FRESH, {0}}, {"change2", change2, SULGHETI_STACK_DESK, {0}}, {"add2", add2, SULGHETI_STACK_DESK, {0}},
 };
+
+/* The editions: marks of list, site, plan and share, bytes of litres and of s, sizes; the most litres, and litres of 64 figures that fall
+ * by a step, eight times the first of which is a mark that can be asked for. */
+static const struct edition {
+    const char *list, *site, *plan, *share;
+    unsigned litres, s;
+    size_t store, place, plan_max;
+    uint32_t most, top, step, spread;
+} editions[2] = {
+    {"LS", "ST", "PL", "SH", 2, 4, SULGHETI_STORE_BYTES, SULGHETI_PLACE_BYTES, SULGHETI_PLAN_MAX, 65535, 65535, 1000, 7919},
+    {"L2", "S2", "P2", "S3", 4, 8, SULGHETI_STORE2_BYTES, SULGHETI_PLACE2_BYTES, SULGHETI_PLAN2_MAX, 4294967295, 536870911, 8000000, 518998849},
+};
+static int two;
+static const struct edition *e, *other;
 
 /* Pages that cannot be touched, and above them a stack with room for a stated figure and for what a thread needs itself. */
 enum { GUARD = 1 << 20, STACK = 1 << 18, PAINT = 0xA5 };
@@ -88,16 +107,19 @@ static int64_t run(int call) {
     pthread_attr_destroy(&attributes);
     size_t kept = 0;
     while (kept < calls[call].stated && bottom[kept] == PAINT) kept++;
-    if (calls[call].stated - kept > calls[call].seen) calls[call].seen = calls[call].stated - kept;
+    if (calls[call].stated - kept > calls[call].seen[two]) calls[call].seen[two] = calls[call].stated - kept;
     return answer;
 }
 
 static void expect(int call, int64_t got, int64_t wanted, int line) {
     if (got == wanted) return;
-    fprintf(stderr, "stack_t.c:%d: sulgheti_%s answers %lld, not %lld\n", line, calls[call].name, (long long)got, (long long)wanted);
+    fprintf(stderr, "stack_t.c:%d: edition %d: sulgheti_%s answers %lld, not %lld\n", line, two + 1, calls[call].name, (long long)got, (long long)wanted);
     exit(1);
 }
 #define EXPECT(call, wanted) do { int64_t got = run(call); expect(call, got, wanted, __LINE__); } while (0)
+/* The same of fresh, change or add in the store's edition, and in the other. */
+#define EXPECT_OWN(call, wanted) EXPECT((call) + EACH * two, wanted)
+#define EXPECT_OTHER(call, wanted) EXPECT((call) + EACH * (1 - two), wanted)
 
 /* Low byte first. */
 static void put(uint8_t *to, uint64_t value, int width) {
@@ -107,16 +129,16 @@ static void put(uint8_t *to, uint64_t value, int width) {
 /* n sites: own sites of one figure; own sites of 64 figures; a ring; pairs of every kind. */
 enum { EQUAL, FALLING, RING, MIXED, LISTS };
 static void write_list(int kind, unsigned n) {
-    memcpy(list, "LS", 2);
+    memcpy(list, e->list, 2);
     put(list + 2, n, 2);
     for (unsigned i = 0; i < n; i++) {
-        uint8_t *at = list + 4 + 6 * i;
-        memcpy(at, "ST", 2);
+        uint8_t *at = list + 4 + (4 + e->litres) * i;
+        memcpy(at, e->site, 2);
         at[2] = (uint8_t)(i % 64);
         at[3] = (uint8_t)(kind == RING ? (i + 1) % 64 : kind == MIXED ? (5 * i + 1 + i / 64) % 64 : i % 64);
-        put(at + 4, kind == EQUAL ? 65535 : kind == FALLING ? 65535 - 1000 * (i % 64) : kind == RING ? 10 : 1 + i * 7919 % 65535, 2);
+        put(at + 4, kind == EQUAL ? e->most : kind == FALLING ? e->top - e->step * (i % 64) : kind == RING ? 10 : 1 + (uint64_t)i * e->spread % e->most, (int)e->litres);
     }
-    list_len = 4 + 6 * n;
+    list_len = 4 + (4 + e->litres) * n;
 }
 
 static void lists_refused(int row) {
@@ -139,7 +161,14 @@ static void damaged(uint8_t *byte, uint8_t value, void (*refused)(int), int row)
 }
 
 static void desk_refused(int code) {
-    for (int call = CHANGE; call < CALLS; call++) EXPECT(call, code);
+    for (int call = PROPOSE; call < FRESH; call++) EXPECT(call, code);
+    EXPECT_OWN(CHANGE, code);
+    EXPECT_OWN(ADD, code);
+}
+
+/* Fresh, change and add of the other edition, whatever the store holds. */
+static void others_refused(void) {
+    for (int call = FRESH; call < FRESH2; call++) EXPECT_OTHER(call, SULGHETI_NO_STORE);
 }
 
 /* The questions that need a plan; the list is written out without one. */
@@ -148,7 +177,7 @@ static void questions_refused(int row) {
 }
 
 static void listed(void) {
-    memset(out, 0, SULGHETI_PLAN_MAX);
+    memset(out, 0, e->plan_max);
     EXPECT(LIST, (int64_t)list_len);
     if (memcmp(out, list, list_len) != 0) exit(5);
     out_len = list_len;
@@ -157,24 +186,22 @@ static void listed(void) {
     EXPECT(LIST, -20);
     out_len = 0;
     EXPECT(LIST, -20);
-    out_len = SULGHETI_PLAN_MAX;
+    out_len = e->plan_max;
 }
 
-int main(void) {
-    uint8_t *memory = mmap(0, GUARD + STACK, PROT_READ | PROT_WRITE, MAP_PRIVATE | MAP_ANONYMOUS, -1, 0);
-    if (memory == MAP_FAILED || mprotect(memory, GUARD, PROT_NONE) != 0) return 2;
-    bottom = memory + GUARD;
-    struct sigaction action = {.sa_handler = faulted, .sa_flags = SA_ONSTACK};
-    if (sigaction(SIGSEGV, &action, 0) != 0) return 2;
+static void edition(void) {
+    e = &editions[two], other = &editions[1 - two];
+    store_len = e->store, table_len = 512 * e->place, out_len = e->plan_max;
+    const unsigned site_len = 4 + e->litres, share_len = 2 + e->s;
 
     for (int kind = 0; kind < LISTS; kind++) {
         /* a list, its plan made, checked, held, asked for and written out */
         write_list(kind, 512);
-        uint8_t *last = list + 4 + 6 * 511;
-        EXPECT(MAKE, 5 + 10 * out[2] + 6 * 512);
+        uint8_t *last = list + 4 + site_len * 511;
+        EXPECT(MAKE, 5 + 10 * out[2] + share_len * 512);
         memcpy(plan, out, plan_len = (size_t)answer);
         EXPECT(CHECK, 0);
-        EXPECT(FRESH, 0);
+        EXPECT_OWN(FRESH, 0);
         EXPECT(LIST, 4);
         EXPECT(LOAD, 0);
         questions_refused(17);
@@ -185,34 +212,43 @@ int main(void) {
             second = (uint8_t)(63 - first);
             EXPECT(SHARE, 0);
             EXPECT(DEPOT, 0);
+            if (kind == EQUAL && (x != (uint64_t)512 * e->most || y != 64)) exit(3);
             EXPECT(DIFFERENCE, 0);
             /* where the figures fall, the mark is the depot's own W / q; where they are equal, it is not above that of all depots */
-            mark = 8 * (65535 - 1000u * first);
+            mark = 8 * (e->top - e->step * first);
             EXPECT(AT_LEAST, 0);
-            if (kind == EQUAL && x != ~(uint64_t)0) return 3;
-            if (kind == FALLING && x != ((uint64_t)2 << first) - 1) return 3;
+            if (kind == EQUAL && x != ~(uint64_t)0) exit(3);
+            if (kind == FALLING && x != ((uint64_t)2 << first) - 1) exit(3);
         }
-        memset(out, 0, SULGHETI_PLAN_MAX);
+        memset(out, 0, e->plan_max);
         EXPECT(WRITTEN, (int64_t)plan_len);
-        if (memcmp(out, plan, plan_len) != 0) return 4;
+        if (memcmp(out, plan, plan_len) != 0) exit(4);
         listed();
 
-        /* each row of the list */
+        /* each row of the list; the other edition's head */
         damaged(list, 0, lists_refused, 1);
+        damaged(list + 1, '3', lists_refused, 1);
+        list[1] = (uint8_t)other->list[1];
+        EXPECT(CHECK, -3);
+        EXPECT(MAKE, -3);
+        EXPECT(LOAD, -1);
+        list[1] = (uint8_t)e->list[1];
         damaged(list + 3, 3, lists_refused, 2);
         list_len--;
         lists_refused(3);
         list_len++;
         damaged(last, 0, lists_refused, 4);
         damaged(last + 3, 64, lists_refused, 5);
-        const uint8_t low = last[4];
-        last[4] = 0;
-        damaged(last + 5, 0, lists_refused, 6);
-        last[4] = low;
+        uint8_t litres_before[4];
+        memcpy(litres_before, last + 4, e->litres);
+        memset(last + 4, 0, e->litres);
+        lists_refused(6);
+        memcpy(last + 4, litres_before, e->litres);
 
-        /* each row of the plan that the list can have */
-        uint8_t *share_at = plan + plan_len - 6;
+        /* each row of the plan that the list can have; the other edition's head */
+        uint8_t *share_at = plan + plan_len - share_len;
         damaged(plan, 0, plans_refused, 7);
+        damaged(plan + 1, (uint8_t)other->plan[1], plans_refused, 7);
         damaged(plan + 2, 65, plans_refused, 8);
         damaged(plan + 3, 1, plans_refused, 9);
         plan_len++;
@@ -221,68 +257,83 @@ int main(void) {
         damaged(share_at, 0, plans_refused, 11);
         if (kind == FALLING) damaged(plan + 7, 0, plans_refused, 12);
         if (kind == EQUAL || kind == RING) damaged(plan + 7, 0xFE, plans_refused, 13);
-        damaged(share_at + 5, 0xFF, plans_refused, 14);
+        damaged(share_at + share_len - 1, 0xFF, plans_refused, 14);
         if (kind == RING) damaged(share_at + 2, share_at[2] == 0 ? 1 : (uint8_t)(share_at[2] - 1), plans_refused, 15);
 
         /* rows 2, 5, 6 and 18 to 20 */
         site = 512, first = 64, second = 0, litres = 1;
-        EXPECT(CHANGE, -18);
-        EXPECT(ADD, -2);
+        EXPECT_OWN(CHANGE, -18);
+        EXPECT_OWN(ADD, -2);
         EXPECT(SHARE, -18);
         EXPECT(DEPOT, -19);
         EXPECT(DIFFERENCE, -19);
         out_len = plan_len - 1;
         EXPECT(WRITTEN, -20);
         EXPECT(MAKE, -20);
-        out_len = SULGHETI_PLAN_MAX;
+        out_len = e->plan_max;
         site = 511, litres = 0;
-        EXPECT(CHANGE, -6);
+        EXPECT_OWN(CHANGE, -6);
 
         /* row 0: the count of sites, the groups, a share, a site of the table */
         damaged(store + 1, 3, desk_refused, SULGHETI_CORRUPT);
         damaged(store + 16, 65, desk_refused, SULGHETI_CORRUPT);
         damaged(store + 24, (uint8_t)(store[24] ^ 1), desk_refused, SULGHETI_CORRUPT);
-        damaged(store + 24 + 8 * 64 + 4 * 511 + 3, 0xFF, desk_refused, SULGHETI_CORRUPT);
-        damaged(table + 4 * 511, 64, desk_refused, SULGHETI_CORRUPT);
+        damaged(store + e->store - 1, 0xFF, desk_refused, SULGHETI_CORRUPT);
+        damaged(table + e->place * 511, 64, desk_refused, SULGHETI_CORRUPT);
 
-        /* a store of another length */
-        const size_t lengths[] = {0, 1, SULGHETI_STORE_BYTES - 1, SULGHETI_STORE_BYTES + 1, 4632};
+        /* a store of no edition's length, and of the other's */
+        others_refused();
+        const size_t lengths[] = {0, 1, SULGHETI_STORE_BYTES - 1, SULGHETI_STORE_BYTES + 1, SULGHETI_STORE2_BYTES - 1, SULGHETI_STORE2_BYTES + 1};
         for (size_t i = 0; i < sizeof lengths / sizeof *lengths; i++) {
             store_len = lengths[i];
-            for (int call = FRESH; call < CALLS; call++) EXPECT(call, SULGHETI_NO_STORE);
+            for (int call = LOAD; call < CALLS; call++) EXPECT(call, SULGHETI_NO_STORE);
         }
-        store_len = SULGHETI_STORE_BYTES;
+        store_len = other->store;
+        for (int call = FRESH; call < FRESH2; call++) EXPECT_OWN(call, SULGHETI_NO_STORE);
+        store_len = e->store;
 
         /* a change, and a last site added */
-        litres = 65535;
-        EXPECT(CHANGE, 0);
+        litres = e->most;
+        EXPECT_OWN(CHANGE, 0);
         questions_refused(17);
         write_list(kind, 511);
         EXPECT(LOAD, 0);
-        EXPECT(ADD, -5);
+        EXPECT_OWN(ADD, -5);
         first = 63, litres = 0;
-        EXPECT(ADD, -6);
-        litres = 65535;
-        EXPECT(ADD, 0);
-        EXPECT(LIST, 4 + 6 * 512);
-        if (memcmp(out + 4, list + 4, list_len - 4) != 0 || memcmp(out + list_len, "ST\77\0\377\377", 6) != 0) return 6;
+        EXPECT_OWN(ADD, -6);
+        litres = e->most;
+        EXPECT_OWN(ADD, 0);
+        EXPECT(LIST, 4 + site_len * 512);
+        if (memcmp(out + 4, list + 4, list_len - 4) != 0 || memcmp(out + list_len, e->site, 2) != 0) exit(6);
+        if (memcmp(out + list_len + 2, "\77\0\377\377\377\377", 2 + e->litres) != 0) exit(6);
     }
 
     /* row 16: depots 0 and the others in two groups, as heavy as each other */
     write_list(EQUAL, 512);
     EXPECT(LOAD, 0);
-    memcpy(plan, "PL\2\0\2GR", 7);
+    memcpy(plan, e->plan, 2);
+    memcpy(plan + 2, "\2\0\2GR", 5);
     put(plan + 7, 1, 8);
     memcpy(plan + 15, "GR", 2);
     put(plan + 17, ~(uint64_t)1, 8);
     for (unsigned i = 0; i < 512; i++) {
-        memcpy(plan + 25 + 6 * i, "SH", 2);
-        put(plan + 27 + 6 * i, i % 64 == 0 ? 65535 : 65535 * 63, 4);
+        memcpy(plan + 25 + share_len * i, e->share, 2);
+        put(plan + 27 + share_len * i, i % 64 == 0 ? e->most : (uint64_t)e->most * 63, (int)e->s);
     }
-    plan_len = 25 + 6 * 512;
+    plan_len = 25 + share_len * 512;
     plans_refused(16);
+}
 
-    printf("stack_t: bytes of stack written, of those stated:");
-    for (int call = 0; call < CALLS; call++) printf(" %s %zu of %zu%c", calls[call].name, calls[call].seen, calls[call].stated, call + 1 < CALLS ? ',' : '\n');
+int main(void) {
+    uint8_t *memory = mmap(0, GUARD + STACK, PROT_READ | PROT_WRITE, MAP_PRIVATE | MAP_ANONYMOUS, -1, 0);
+    if (memory == MAP_FAILED || mprotect(memory, GUARD, PROT_NONE) != 0) return 2;
+    bottom = memory + GUARD;
+    struct sigaction action = {.sa_handler = faulted, .sa_flags = SA_ONSTACK};
+    if (sigaction(SIGSEGV, &action, 0) != 0) return 2;
+
+    for (two = 0; two < 2; two++) edition();
+
+    printf("stack_t: bytes of stack written in edition 1 and in edition 2, of those stated:");
+    for (int call = 0; call < CALLS; call++) printf(" %s %zu and %zu of %zu%c", calls[call].name, calls[call].seen[0], calls[call].seen[1], calls[call].stated, call + 1 < CALLS ? ',' : '\n');
     return 0;
 }

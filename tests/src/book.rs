@@ -1,17 +1,49 @@
 //! The plain book of document 01: a list, a plan or none, and the rows in the paper's order; before them the
-//! store's length, which is no row. With document 02's question a, the depots at or over a mark, and its call b, the
-//! list written out.
+//! store's length, which is no row. With document 02's question a, the depots at or over a mark, its call b, the list
+//! written out, and its editions (c).
 
 use crate::decompose::by_cuts;
-use crate::records::{list_bytes, listed, plan_bytes, Plan, Site};
+use crate::records::{list_bytes, listed, number, plan_bytes, Edition, Plan, Site, EDITIONS, ONE, TWO};
 use crate::reference::{self, Depots};
+
+/// Litres as a change or an added site is given them: 16 bits by the functions of edition 1, 32 by those of edition 2.
+#[derive(Clone, Copy, Debug)]
+pub enum Litres {
+    Bits16(u16),
+    Bits32(u32),
+}
+
+impl Litres {
+    /// The low bits of a figure, as many as the edition has.
+    pub fn of(e: Edition, figure: u32) -> Litres {
+        if e == ONE {
+            Litres::Bits16(figure as u16)
+        } else {
+            Litres::Bits32(figure)
+        }
+    }
+
+    fn edition(self) -> Edition {
+        match self {
+            Litres::Bits16(_) => ONE,
+            Litres::Bits32(_) => TWO,
+        }
+    }
+
+    fn figure(self) -> u32 {
+        match self {
+            Litres::Bits16(litres) => u32::from(litres),
+            Litres::Bits32(litres) => litres,
+        }
+    }
+}
 
 /// A desk call, with what it is given beside the desk and the table.
 #[derive(Clone, Debug)]
 pub enum Call {
     Load(Vec<u8>),
-    Change(usize, u16),
-    Add(u8, u8, u16),
+    Change(usize, Litres),
+    Add(u8, u8, Litres),
     Propose(Vec<u8>),
     Share(usize),
     Depot(u8),
@@ -41,6 +73,14 @@ impl Call {
         }
     }
 
+    /// The edition of a call that serves one edition only.
+    fn edition(&self) -> Option<Edition> {
+        match self {
+            Call::Change(_, litres) | Call::Add(_, _, litres) => Some(litres.edition()),
+            _ => None,
+        }
+    }
+
     /// The bytes of the buffer that the call is lent to write into, where it is lent one.
     pub fn room(&self) -> Option<usize> {
         match *self {
@@ -53,7 +93,7 @@ impl Call {
 /// Why a call is refused.
 #[derive(Clone, Copy, Debug, PartialEq, Eq)]
 pub enum Refusal {
-    /// The store's length is that of no store.
+    /// The store's length is that of no store that the call serves.
     NoStore,
     Row(u8),
 }
@@ -81,6 +121,7 @@ pub enum Told {
 
 #[derive(Clone, Debug)]
 pub struct Book {
+    pub edition: Edition,
     pub places: usize,
     pub list: Vec<Site>,
     pub plan: Option<Plan>,
@@ -91,17 +132,17 @@ pub struct Book {
 }
 
 impl Book {
-    pub fn new(places: usize) -> Book {
-        Book { places, list: Vec::new(), plan: None, groups: None, by_held: false }
+    pub fn new(edition: Edition, places: usize) -> Book {
+        Book { edition, places, list: Vec::new(), plan: None, groups: None, by_held: false }
     }
 
     /// A book whose figures go by the groups of the plan that it holds, true or not.
-    pub fn holding(places: usize, list: Vec<Site>, plan: Option<Plan>) -> Book {
-        Book { list, plan, by_held: true, ..Book::new(places) }
+    pub fn holding(edition: Edition, places: usize, list: Vec<Site>, plan: Option<Plan>) -> Book {
+        Book { list, plan, by_held: true, ..Book::new(edition, places) }
     }
 
     fn listed(&mut self, list: Vec<Site>) {
-        *self = Book { list, ..Book::new(self.places) };
+        *self = Book { list, ..Book::new(self.edition, self.places) };
     }
 
     fn definition(&mut self) -> &[u64] {
@@ -157,15 +198,17 @@ impl Book {
         self.groups()[..read].iter().fold(0, |set, group| set | group)
     }
 
-    /// The rows of a call in the paper's order, or what it answers; the book is as it is after it.
+    /// The rows of a call that serves the book's edition, in the paper's order, or what it answers; the book is as it is
+    /// after it.
     pub fn answer(&mut self, call: &Call) -> Result<Told, u8> {
         match call {
             Call::Load(list) => {
-                let list = reference::read_list_into(list, self.places)?;
+                let list = reference::read_list_into(self.edition, list, self.places)?;
                 self.listed(list);
                 Ok(Told::Done)
             }
             &Call::Change(site, litres) => {
+                let litres = litres.figure();
                 if litres == 0 {
                     return Err(6);
                 }
@@ -175,6 +218,7 @@ impl Book {
                 Ok(Told::Done)
             }
             &Call::Add(first, second, litres) => {
+                let litres = litres.figure();
                 if self.list.len() >= 512 || self.list.len() >= self.places {
                     return Err(2);
                 }
@@ -190,15 +234,14 @@ impl Book {
                 Ok(Told::Done)
             }
             Call::Propose(plan) => {
-                let (groups, shares) = reference::read_plan(plan, self.list.len())?;
+                let (groups, shares) = reference::read_plan(self.edition, plan, self.list.len())?;
                 let row = reference::plan_row(&self.list, &groups, &shares);
                 let list = self.list.clone();
                 let is_true = reference::is_true(&list, self.definition(), &groups, &shares);
                 assert_eq!(is_true, row == 0, "the rows and the definition differ");
                 match row {
                     0 => {
-                        let shares = shares.iter().map(|&s| s as u32).collect();
-                        self.plan = Some(Plan { groups: groups.iter().map(number).collect(), shares });
+                        self.plan = Some(Plan { groups: groups.iter().map(worth).collect(), shares });
                         Ok(Told::Done)
                     }
                     row => Err(row),
@@ -209,7 +252,7 @@ impl Book {
                 let s = *self.list.get(site).ok_or(18)?;
                 let carrier = self.place(s.first).max(self.place(s.second));
                 let q = self.group(carrier).1;
-                Ok(Told::Figures(u64::from(share.expect("a share for each site")), u64::from(s.litres) * q))
+                Ok(Told::Figures(share.expect("a share for each site"), u64::from(s.litres) * q))
             }
             &Call::Depot(depot) => {
                 self.plan.as_ref().ok_or(17)?;
@@ -222,7 +265,7 @@ impl Book {
                 Ok(Told::Difference((wa * qb) as i64 - (wb * qa) as i64, qa * qb))
             }
             &Call::Written(room) => {
-                let bytes = plan_bytes(self.plan.as_ref().ok_or(17)?);
+                let bytes = plan_bytes(self.edition, self.plan.as_ref().ok_or(17)?);
                 if room < bytes.len() {
                     return Err(20);
                 }
@@ -234,7 +277,7 @@ impl Book {
             }
             // "the book gives row 20, or its list and the length, and stays as it is"
             &Call::List(room) => {
-                let bytes = list_bytes(&self.list);
+                let bytes = list_bytes(self.edition, &self.list);
                 if room < bytes.len() {
                     return Err(20);
                 }
@@ -252,23 +295,23 @@ impl Book {
         }
         groups.iter().for_each(|g| bytes.extend(g.to_le_bytes()));
         bytes.resize(24 + 8 * 64, 0);
-        shares.iter().for_each(|s| bytes.extend(s.to_le_bytes()));
-        bytes.resize(24 + 8 * 64 + 4 * 512, 0);
+        shares.iter().for_each(|&s| bytes.extend(self.edition.s(s)));
+        bytes.resize(self.edition.store_bytes(), 0);
         bytes
     }
 
     /// The table after a call: the sites stand in front, the rest keeps its content.
     pub fn table(&self, before: &[u8]) -> Vec<u8> {
         let mut bytes = before.to_vec();
-        for (place, s) in bytes.chunks_mut(4).zip(&self.list) {
-            let litres = s.litres.to_le_bytes();
-            place.copy_from_slice(&[s.first, s.second, litres[0], litres[1]]);
+        for (place, s) in bytes.chunks_mut(self.edition.place_bytes()).zip(&self.list) {
+            place[..2].copy_from_slice(&[s.first, s.second]);
+            place[2..].copy_from_slice(&self.edition.litres(s.litres));
         }
         bytes
     }
 }
 
-fn number(set: &Depots) -> u64 {
+fn worth(set: &Depots) -> u64 {
     (0..64).map(|d| u64::from(set[d]) << d).sum()
 }
 
@@ -276,43 +319,47 @@ fn depots(set: u64) -> Depots {
     std::array::from_fn(|d| set >> d & 1 == 1)
 }
 
-/// Every call, a fresh store and a load too, first looks whether the bytes can be a store: 2,584 of them.
-pub fn sized(store: &[u8]) -> Result<(), Refusal> {
-    if store.len() == 2584 {
-        Ok(())
-    } else {
-        Err(Refusal::NoStore)
+/// Every call, a fresh store and a load too, first looks which edition's store the bytes can be: 2,584 of them or 4,632.
+pub fn sized(store: &[u8]) -> Result<Edition, Refusal> {
+    EDITIONS.into_iter().find(|e| store.len() == e.store_bytes()).ok_or(Refusal::NoStore)
+}
+
+/// The edition of the bytes, where they can be a store that the call serves.
+pub fn served(store: &[u8], call: &Call) -> Result<Edition, Refusal> {
+    let e = sized(store)?;
+    match call.edition() {
+        Some(of_call) if of_call != e => Err(Refusal::NoStore),
+        _ => Ok(e),
     }
 }
 
 /// The book that the bytes of a store and a table stand for; or no store; or row 0: "held site count above 512 or
 /// the table's places, a held site that rows 5 or 6 refuse, or a held plan that rows 8 or 12 to 14 refuse".
 pub fn held(store: &[u8], table: &[u8]) -> Result<Book, Refusal> {
-    sized(store)?;
+    let e = sized(store)?;
     let corrupt = Err(Refusal::Row(0));
-    let figure = |at: usize, bytes: usize| (0..bytes).map(|i| u64::from(store[at + i]) << (8 * i)).sum::<u64>();
-    let places = table.len() / 4;
-    if figure(8, 8) > 1 || figure(0, 8) > 512 || figure(0, 8) > places as u64 {
+    let figure = |at: usize| number(&store[at..at + 8]);
+    let places = table.len() / e.place_bytes();
+    if figure(8) > 1 || figure(0) > 512 || figure(0) > places as u64 {
         return corrupt;
     }
-    let count = figure(0, 8) as usize;
-    let site = |p: &[u8]| Site { first: p[0], second: p[1], litres: u16::from_le_bytes([p[2], p[3]]) };
-    let list: Vec<Site> = table.chunks_exact(4).take(count).map(site).collect();
+    let count = figure(0) as usize;
+    let site = |p: &[u8]| Site { first: p[0], second: p[1], litres: number(&p[2..]) as u32 };
+    let list: Vec<Site> = table.chunks_exact(e.place_bytes()).take(count).map(site).collect();
     if list.iter().any(|s| s.first > 63 || s.second > 63 || s.litres == 0) {
         return corrupt;
     }
-    if figure(8, 8) == 0 {
-        return Ok(Book::holding(places, list, None));
+    if figure(8) == 0 {
+        return Ok(Book::holding(e, places, list, None));
     }
-    if figure(16, 8) > 64 {
+    if figure(16) > 64 {
         return corrupt;
     }
-    let groups: Vec<u64> = (0..figure(16, 8) as usize).map(|k| figure(24 + 8 * k, 8)).collect();
-    let shares: Vec<u32> = (0..count).map(|i| figure(536 + 4 * i, 4) as u32).collect();
+    let groups: Vec<u64> = (0..figure(16) as usize).map(|k| figure(24 + 8 * k)).collect();
+    let shares: Vec<u64> = (0..count).map(|i| number(&store[e.store_share(i)..e.store_share(i + 1)])).collect();
     let sets: Vec<Depots> = groups.iter().map(|&g| depots(g)).collect();
-    let wide: Vec<u64> = shares.iter().map(|&s| u64::from(s)).collect();
-    match reference::plan_row(&list, &sets, &wide) {
+    match reference::plan_row(&list, &sets, &shares) {
         12..=14 => corrupt,
-        _ => Ok(Book::holding(places, list, Some(Plan { groups, shares }))),
+        _ => Ok(Book::holding(e, places, list, Some(Plan { groups, shares }))),
     }
 }

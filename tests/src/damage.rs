@@ -1,25 +1,26 @@
 //! Damage to a list and a plan, by row: each function spoils what one row is about.
 
-use crate::records::{listed, members, Plan, Site};
+use crate::records::{listed, members, plan_bytes, Edition, Plan, Site, EDITIONS};
 use crate::rng::Rng;
 
-/// A list and a plan laid out for it, as values. Offsets of the bytes follow from their counts.
+/// A list and a plan laid out for it in an edition, as values. Offsets of the bytes follow from their counts.
 pub struct Base {
+    pub edition: Edition,
     pub sites: Vec<Site>,
     pub plan: Plan,
 }
 
 impl Base {
     fn site_at(&self, i: usize) -> usize {
-        4 + 6 * i
+        self.edition.list_length(i)
     }
 
     fn group_at(&self, k: usize) -> usize {
-        5 + 10 * k
+        self.edition.plan_length(k, 0)
     }
 
     fn share_at(&self, i: usize) -> usize {
-        5 + 10 * self.plan.groups.len() + 6 * i
+        self.edition.plan_length(self.plan.groups.len(), i)
     }
 
     fn place(&self, depot: u8) -> usize {
@@ -27,10 +28,10 @@ impl Base {
     }
 
     /// The places of a site's two depots and its litres at the scale of the carrying group.
-    fn carried(&self, s: &Site) -> (usize, usize, u32) {
+    fn carried(&self, s: &Site) -> (usize, usize, u64) {
         let (first, second) = (self.place(s.first), self.place(s.second));
         let q = self.plan.groups[first.max(second)].count_ones();
-        (first, second, u32::from(s.litres) * q)
+        (first, second, u64::from(s.litres) * u64::from(q))
     }
 }
 
@@ -40,17 +41,36 @@ fn put(bytes: &mut [u8], at: usize, with: &[u8]) {
     }
 }
 
-/// Changes one of two mark bytes.
-fn spoil_mark(rng: &mut Rng, bytes: &mut [u8], at: usize) {
+/// Changes one of two mark bytes, or gives the record the mark that it has in the other edition.
+fn spoil_mark(rng: &mut Rng, bytes: &mut [u8], at: usize, other: [u8; 2]) {
+    if rng.percent(20) {
+        return put(bytes, at, &other);
+    }
     let at = at + rng.below(2);
     if at < bytes.len() {
         bytes[at] ^= 1 + rng.below(255) as u8;
     }
 }
 
-/// Makes the bytes longer or shorter by a few, or cuts them anywhere down to `least`.
-fn spoil_length(rng: &mut Rng, bytes: &mut Vec<u8>, least: usize) {
-    match rng.below(4) {
+/// A mark that begins a list of neither edition, near to theirs or any.
+fn no_list(rng: &mut Rng) -> [u8; 2] {
+    loop {
+        let mark = match rng.below(3) {
+            0 => *rng.pick(b"L3L1LRLTMSM2SL2LPLP2L\0\0S\x002".as_chunks().0),
+            1 => [0x4C, rng.byte()],
+            _ => [rng.byte(), rng.byte()],
+        };
+        if EDITIONS.iter().all(|e| e.list != mark) {
+            return mark;
+        }
+    }
+}
+
+/// Makes the bytes longer or shorter by a few, cuts them anywhere down to `least`, or gives them the length that they
+/// have in the other edition.
+fn spoil_length(rng: &mut Rng, bytes: &mut Vec<u8>, least: usize, other: usize) {
+    match rng.below(5) {
+        4 if bytes.len() != other => bytes.resize(other, rng.byte()),
         0 if bytes.len() > least => bytes.truncate(bytes.len() - 1),
         1 if bytes.len() > least => bytes.truncate(rng.from_to(least, bytes.len() - 1)),
         2 => bytes.push(rng.byte()),
@@ -66,21 +86,22 @@ fn spoil_length(rng: &mut Rng, bytes: &mut Vec<u8>, least: usize) {
 /// damage has changed. False where this base has nothing to spoil.
 pub fn spoil(rng: &mut Rng, row: u8, base: &Base, list: &mut Vec<u8>, plan: &mut Vec<u8>) -> bool {
     let (sites, groups) = (base.sites.len(), base.plan.groups.len());
+    let (e, other) = (base.edition, base.edition.other());
     match row {
         1 => {
             if rng.percent(30) {
                 list.truncate(rng.below(4));
             } else {
-                spoil_mark(rng, list, 0);
+                put(list, 0, &no_list(rng));
             }
         }
         2 => {
             let count = *rng.pick(&[513, 514, 600, 0x0300, 0x8000, 0xFFFF]);
             put(list, 2, &(count as u16).to_le_bytes());
             // sometimes with all the records that it announces
-            if list.len() >= 10 && count <= 600 && rng.percent(50) {
-                let record = list[4..10].to_vec();
-                while list.len() < 4 + 6 * count {
+            if list.len() >= e.list_length(1) && count <= 600 && rng.percent(50) {
+                let record = list[4..e.list_length(1)].to_vec();
+                while list.len() < e.list_length(count) {
                     list.extend(&record);
                 }
             }
@@ -93,7 +114,7 @@ pub fn spoil(rng: &mut Rng, row: u8, base: &Base, list: &mut Vec<u8>, plan: &mut
                 }
                 put(list, 2, &(count as u16).to_le_bytes());
             } else {
-                spoil_length(rng, list, 4);
+                spoil_length(rng, list, 4, other.list_length(sites));
             }
         }
         4..=6 => {
@@ -102,18 +123,16 @@ pub fn spoil(rng: &mut Rng, row: u8, base: &Base, list: &mut Vec<u8>, plan: &mut
             }
             let at = base.site_at(rng.below(sites));
             match row {
-                4 => spoil_mark(rng, list, at),
+                4 => spoil_mark(rng, list, at, other.site),
                 5 => put(list, at + 2 + rng.below(2), &[rng.from_to(64, 255) as u8]),
-                _ => put(list, at + 4, &[0, 0]),
+                _ => put(list, at + 4, &e.litres(0)),
             }
         }
-        7 => {
-            if rng.percent(30) {
-                plan.truncate(rng.below(5));
-            } else {
-                spoil_mark(rng, plan, 0);
-            }
-        }
+        7 => match rng.below(10) {
+            0..=2 => plan.truncate(rng.below(5)),
+            3 | 4 => *plan = plan_bytes(other, &base.plan),
+            _ => spoil_mark(rng, plan, 0, other.plan),
+        },
         8 => {
             let count = rng.from_to(65, 255);
             put(plan, 2, &[count as u8]);
@@ -133,7 +152,8 @@ pub fn spoil(rng: &mut Rng, row: u8, base: &Base, list: &mut Vec<u8>, plan: &mut
             };
             put(plan, 3, &(count as u16).to_le_bytes());
             if count == sites + 1 && rng.percent(50) {
-                plan.extend(b"SH\0\0\0\0");
+                plan.extend(e.share);
+                plan.extend(e.s(0));
             }
         }
         10 => {
@@ -144,15 +164,19 @@ pub fn spoil(rng: &mut Rng, row: u8, base: &Base, list: &mut Vec<u8>, plan: &mut
                 }
                 put(plan, 2, &[count as u8]);
             } else {
-                spoil_length(rng, plan, 5);
+                spoil_length(rng, plan, 5, other.plan_length(groups, sites));
             }
         }
         11 => {
             if groups == 0 {
                 return false;
             }
-            let at = if rng.percent(50) { base.group_at(rng.below(groups)) } else { base.share_at(rng.below(sites)) };
-            spoil_mark(rng, plan, at);
+            let (at, mark) = if rng.percent(50) {
+                (base.group_at(rng.below(groups)), e.share)
+            } else {
+                (base.share_at(rng.below(sites)), other.share)
+            };
+            spoil_mark(rng, plan, at, mark);
         }
         12 => {
             if groups == 0 {
@@ -193,20 +217,22 @@ pub fn spoil(rng: &mut Rng, row: u8, base: &Base, list: &mut Vec<u8>, plan: &mut
             let s = &base.sites[i];
             let (first, second, whole) = base.carried(s);
             let fixed = s.first == s.second || first != second;
-            let share = match rng.below(3) {
+            let share = match rng.below(4) {
                 0 if fixed => {
                     let right = if first < second { 0 } else { whole };
-                    let wrong = rng.from_to(0, whole as usize) as u32;
+                    let wrong = rng.from_to(0, whole as usize) as u64;
                     if wrong == right {
                         whole - right
                     } else {
                         wrong
                     }
                 }
-                1 => u32::MAX - rng.below(1000) as u32,
+                1 => e.most_share() - rng.below(1000) as u64,
+                // right in its low bytes
+                2 => base.plan.shares[i] | 1 << (8 * (e.share_bytes - 3) + rng.below(8)),
                 _ => whole + 1,
             };
-            put(plan, base.share_at(i) + 2, &share.to_le_bytes());
+            put(plan, base.share_at(i) + 2, &e.s(share));
         }
         15 => {
             let open = |s: &&Site| s.first != s.second && base.place(s.first) == base.place(s.second);
@@ -224,11 +250,11 @@ pub fn spoil(rng: &mut Rng, row: u8, base: &Base, list: &mut Vec<u8>, plan: &mut
             let other = match rng.below(3) {
                 0 if share < whole => share + 1,
                 1 if share > 0 => share - 1,
-                _ => rng.from_to(0, whole as usize) as u32,
+                _ => rng.from_to(0, whole as usize) as u64,
             };
             let other = if other == share { whole - share } else { other };
             let other = if other == share { share + 1 } else { other };
-            put(plan, base.share_at(i) + 2, &other.to_le_bytes());
+            put(plan, base.share_at(i) + 2, &e.s(other));
         }
         _ => unreachable!("no damage for row {row}"),
     }

@@ -108,7 +108,7 @@ pub fn by_cuts(sites: &[Site]) -> Vec<u64> {
 /// Shares for groups in a given order, by a flow from sites to the depots of their carrying group;
 /// and whether they are level. Where they cannot be level, what is left of a site goes to its first
 /// depot in the carrying group. Every listed depot is in one group.
-pub fn shares(sites: &[Site], groups: &[u64]) -> (Vec<u32>, bool) {
+pub fn shares(sites: &[Site], groups: &[u64]) -> (Vec<u64>, bool) {
     let place = |d: u8| groups.iter().position(|g| g >> d & 1 == 1).expect("a grouped depot");
     let mut shares = vec![0; sites.len()];
     let mut level = true;
@@ -141,7 +141,7 @@ pub fn shares(sites: &[Site], groups: &[u64]) -> (Vec<u32>, bool) {
         }
         level &= graph.maximum(source, sink) == w * q;
         for (i, from, to_first, whole) in carried {
-            shares[i] = to_first.map_or(0, |e| graph.flow(e) + whole - graph.flow(from)) as u32;
+            shares[i] = to_first.map_or(0, |e| graph.flow(e) + whole - graph.flow(from));
         }
         grouped |= g;
     }

@@ -1,15 +1,19 @@
-//! Desk calls beside the plain book: whole histories, stores and tables of any bytes, and stores of other lengths.
+//! Desk calls beside the plain book, in either edition: whole histories, stores and tables of any bytes, stores of other
+//! lengths, and what is of the other edition.
 
-use crate::book::{held, sized, Book, Call, Refusal, Told};
+use crate::book::{held, served, sized, Book, Call, Litres, Refusal, Told};
 use crate::damage::{reordered, spoil, Base};
-use crate::families::{scattered, Extent, FAMILIES};
+use crate::families::{extent, scattered, FAMILIES};
+use crate::known;
 use crate::lent::{self, Lent, Reply};
 use crate::near::{miss, next_season};
-use crate::records::{list_bytes, plan_bytes, Plan, Site};
+use crate::records::{list_bytes, no_plan, plan_bytes, site, Edition, Plan, Site, EDITIONS, ONE, TWO};
 use crate::run::Run;
 
-/// How often each of the ten calls got each row; place 21 is success, place 22 no store.
-pub type Seen = [[usize; 23]; 10];
+/// How often, on a store of each edition, each of the ten calls got each row; place 21 is success, place 22 no store.
+pub type Seen = [[[usize; 23]; 10]; 2];
+
+pub const NONE: Seen = [[[0; 23]; 10]; 2];
 
 /// The rows that each call can answer, 21 for success; row 0 only where the bytes are foreign. No store, 22, where
 /// they are of another number.
@@ -26,14 +30,16 @@ const ROWS: [&[usize]; 10] = [
     &[0, 20, 21, 22],
 ];
 
-/// Lengths of no store, around that of a store and of its parts; and 4,632, as of shares of 8 bytes each.
-const LENGTHS: [usize; 11] = [0, 1, 8, 24, 536, 2_583, 2_585, 2_588, 4_632, 5_168, 10_000];
+/// Lengths of no store, around those of a store of either edition and of its parts.
+const LENGTHS: [usize; 15] = [0, 1, 8, 24, 536, 2_583, 2_585, 2_588, 3_608, 4_631, 4_633, 4_640, 5_168, 7_216, 10_000];
 
-/// The rows of the table that some call never answered.
-pub fn missing(seen: &Seen) -> Vec<(usize, usize)> {
-    (0..ROWS.len())
-        .flat_map(|kind| ROWS[kind].iter().map(move |&row| (kind, row)))
-        .filter(|&(kind, row)| seen[kind][row] == 0)
+/// The rows of the table that some call never answered: edition, call, row.
+pub fn missing(seen: &Seen) -> Vec<(usize, usize, usize)> {
+    EDITIONS
+        .iter()
+        .flat_map(|e| (0..ROWS.len()).map(|kind| (e.number, kind)))
+        .flat_map(|(edition, kind)| ROWS[kind].iter().map(move |&row| (edition, kind, row)))
+        .filter(|&(edition, kind, row)| seen[edition - 1][kind][row] == 0)
         .collect()
 }
 
@@ -46,27 +52,38 @@ struct Bytes {
 
 impl Bytes {
     /// A fresh desk over any bytes, and a table of so many places and bytes behind them, of any content.
-    fn fresh(run: &mut Run, places: usize) -> Bytes {
-        let junk: Vec<u8> = (0..sulgheti::STORE_BYTES).map(|_| run.rng.byte()).collect();
+    fn fresh(run: &mut Run, e: Edition, places: usize) -> Bytes {
+        let junk: Vec<u8> = (0..e.store_bytes()).map(|_| run.rng.byte()).collect();
         let mut store = Lent::new(&mut run.rng, &junk, &[]);
-        if lent::fresh(&mut store) != 0 || !store.kept_around() || store.bytes() != Book::new(places).store() {
+        if lent::fresh(e, &mut store) != 0 || !store.kept_around() || store.bytes() != Book::new(e, places).store() {
             run.fail("a fresh store is not as laid out", &[]);
         }
-        let tail = run.rng.below(4);
-        let table = (0..4 * places + tail).map(|_| run.rng.byte()).collect();
+        let tail = run.rng.below(e.place_bytes());
+        let table = (0..e.place_bytes() * places + tail).map(|_| run.rng.byte()).collect();
         Bytes { store: store.bytes().to_vec(), table }
+    }
+
+    /// The edition that the store's length tells, or edition 1 where it is that of no store.
+    fn edition(&self) -> Edition {
+        sized(&self.store).unwrap_or(ONE)
+    }
+
+    fn places(&self) -> usize {
+        self.table.len() / self.edition().place_bytes()
     }
 }
 
 /// One call of the library and of the wrapper, compared with what the book says: the answer, every byte of the
 /// store, of the table and of the buffer, and the guards around them. `book` is the book before the call, or what
-/// the bytes are refused by: no store by every call, row 0 by every call but load.
+/// the bytes are refused by: no store by every call, row 0 by every call but load. Before the book a call of the other
+/// edition is refused.
 fn call(run: &mut Run, desk: &mut Bytes, book: &mut Result<Book, Refusal>, call: &Call, seen: &mut Seen) {
     run.cases += 1;
     let expected = match (&mut *book, call) {
+        _ if served(&desk.store, call).is_err() => Err(Refusal::NoStore),
         (Ok(book), _) => book.answer(call).map_err(Refusal::Row),
         (Err(Refusal::Row(_)), Call::Load(_)) => {
-            let mut fresh = Book::new(desk.table.len() / 4);
+            let mut fresh = Book::new(desk.edition(), desk.places());
             let answer = fresh.answer(call);
             if answer.is_ok() {
                 *book = Ok(fresh);
@@ -80,7 +97,10 @@ fn call(run: &mut Run, desk: &mut Bytes, book: &mut Result<Book, Refusal>, call:
         Err(Refusal::NoStore) => 22,
         Err(Refusal::Row(row)) => usize::from(row),
     };
-    seen[call.kind()][place] += 1;
+    // a length of neither edition is none of either
+    for e in EDITIONS.iter().filter(|&&e| sized(&desk.store).unwrap_or(e) == e) {
+        seen[e.number - 1][call.kind()][place] += 1;
+    }
 
     let given: &[u8] = match call {
         Call::Load(bytes) | Call::Propose(bytes) => bytes,
@@ -127,7 +147,8 @@ fn call(run: &mut Run, desk: &mut Bytes, book: &mut Result<Book, Refusal>, call:
     *desk = after;
 }
 
-/// The same call of the wrapper, whose store has its length by its type.
+/// The same call of the wrapper, whose store has its length and its litres by its type: a store of another length and a
+/// call of the other edition cannot be written.
 fn wrapped(
     run: &mut Run,
     before: &Bytes,
@@ -137,13 +158,37 @@ fn wrapped(
     content: &[u8],
     out: &[u8],
 ) {
-    let Ok(store) = before.store[..].try_into() else { return };
-    let mut desk = sulgheti::Desk::from_bytes(store, before.table.clone());
+    let table = || before.table.clone();
+    let same = if let Ok(store) = before.store[..].try_into() {
+        let bits16 = |litres| if let Litres::Bits16(litres) = litres { Some(litres) } else { None };
+        wrapped_by(sulgheti::Store::from_bytes(store, table()), bits16, call, expected, after, content, out)
+    } else if let Ok(store) = before.store[..].try_into() {
+        let bits32 = |litres| if let Litres::Bits32(litres) = litres { Some(litres) } else { None };
+        wrapped_by(sulgheti::Store2::from_bytes(store, table()), bits32, call, expected, after, content, out)
+    } else {
+        None
+    };
+    if same == Some(false) {
+        run.fail(&format!("the wrapper's {call:?} differs"), &[("store", &before.store), ("table", &before.table)]);
+    }
+}
+
+/// Whether the wrapper's store of an edition answers as expected and leaves what is expected; none where it has no such
+/// call.
+fn wrapped_by<E: sulgheti::Edition>(
+    mut desk: sulgheti::StoreOf<E>,
+    of_edition: impl Fn(Litres) -> Option<E::Litres>,
+    call: &Call,
+    expected: &Result<Told, Refusal>,
+    after: &Bytes,
+    content: &[u8],
+    out: &[u8],
+) -> Option<bool> {
     let mut buffer = content.to_vec();
     let answer = match call {
         Call::Load(list) => desk.load(list).map(|()| Told::Done),
-        &Call::Change(site, litres) => desk.change(site, litres).map(|()| Told::Done),
-        &Call::Add(first, second, litres) => desk.add(first, second, litres).map(|()| Told::Done),
+        &Call::Change(site, litres) => desk.change(site, of_edition(litres)?).map(|()| Told::Done),
+        &Call::Add(first, second, litres) => desk.add(first, second, of_edition(litres)?).map(|()| Told::Done),
         Call::Propose(plan) => desk.propose(plan).map(|()| Told::Done),
         &Call::Share(site) => desk.share(site).map(|(s, w)| Told::Figures(s, w)),
         &Call::Depot(depot) => desk.depot(depot).map(|(w, q)| Told::Figures(w, q)),
@@ -153,59 +198,62 @@ fn wrapped(
         Call::List(_) => desk.list(&mut buffer).map(|n| Told::Wrote(buffer[..n].to_vec())),
     };
     let (store, table) = desk.bytes();
-    let kept = store[..] == after.store && table == after.table && buffer == out;
-    if answer.map_err(|row| Refusal::Row(row.0)) != *expected || !kept {
-        run.fail(&format!("the wrapper's {call:?} differs"), &[("store", &before.store), ("table", &before.table)]);
-    }
+    let kept = store.as_ref() == after.store && table == after.table && buffer == out;
+    Some(answer.map_err(|row| Refusal::Row(row.0)) == *expected && kept)
 }
 
 /// A list of a family.
-fn sites(run: &mut Run, most: usize, depots: usize) -> Vec<Site> {
-    let litres = *run.rng.pick(&[1, 2, 3, 10, 100, 65_535]);
+fn sites(run: &mut Run, e: Edition, most: usize, depots: usize) -> Vec<Site> {
     let sites = run.rng.from_to(0, most);
     let family = run.rng.pick(&FAMILIES).1;
-    let list = family(&mut run.rng, Extent { sites, depots, litres });
+    let size = extent(&mut run.rng, e, sites, depots);
+    let list = family(&mut run.rng, size);
     scattered(&mut run.rng, &list)
 }
 
-/// A list for a load: mostly one that reads, sometimes damaged.
-fn loaded(run: &mut Run, most: usize, depots: usize) -> Vec<u8> {
-    let sites = sites(run, most, depots);
-    let mut list = list_bytes(&sites);
+/// A list for a load: mostly one that reads, sometimes damaged or of the other edition.
+fn loaded(run: &mut Run, e: Edition, most: usize, depots: usize) -> Vec<u8> {
+    let sites = sites(run, e, most, depots);
+    if run.rng.percent(5) {
+        return list_bytes(e.other(), &sites);
+    }
+    let mut list = list_bytes(e, &sites);
     if run.rng.percent(35) {
         let row = run.rng.from_to(1, 6) as u8;
         let plan = run.plan(&sites);
-        let mut bytes = plan_bytes(&plan);
-        spoil(&mut run.rng, row, &Base { sites, plan }, &mut list, &mut bytes);
+        let mut bytes = plan_bytes(e, &plan);
+        spoil(&mut run.rng, row, &Base { edition: e, sites, plan }, &mut list, &mut bytes);
     }
     list
 }
 
 /// A plan for a proposal: true, near, of an earlier list, or damaged for one row.
 fn proposed(run: &mut Run, book: &Book, old: &mut Vec<u8>) -> Vec<u8> {
+    let e = book.edition;
     let stale = old.clone();
     let own = run.plan(&book.list);
-    let bytes = plan_bytes(&own);
+    let bytes = plan_bytes(e, &own);
     *old = bytes.clone();
     match run.rng.below(10) {
         0..=3 => {
             let mut made = vec![0; bytes.len()];
-            if run.rng.percent(50) && sulgheti::make(&list_bytes(&book.list), &mut made).is_ok() {
+            if run.rng.percent(50) && sulgheti::make(&list_bytes(e, &book.list), &mut made).is_ok() {
                 made
             } else {
                 bytes
             }
         }
         4 | 5 => stale,
-        6 if !book.list.is_empty() => plan_bytes(&miss(&mut run.rng, &book.list, &own)),
+        6 if !book.list.is_empty() => plan_bytes(e, &miss(&mut run.rng, e, &book.list, &own)),
         7 => {
-            let base = Base { sites: book.list.clone(), plan: own };
-            reordered(&mut run.rng, &base).map_or(bytes, |plan| plan_bytes(&plan))
+            let base = Base { edition: e, sites: book.list.clone(), plan: own };
+            reordered(&mut run.rng, &base).map_or(bytes, |plan| plan_bytes(e, &plan))
         }
         _ => {
             let row = run.rng.from_to(7, 15) as u8;
-            let (mut list, mut bytes) = (list_bytes(&book.list), bytes);
-            spoil(&mut run.rng, row, &Base { sites: book.list.clone(), plan: own }, &mut list, &mut bytes);
+            let (mut list, mut bytes) = (list_bytes(e, &book.list), bytes);
+            let base = Base { edition: e, sites: book.list.clone(), plan: own };
+            spoil(&mut run.rng, row, &base, &mut list, &mut bytes);
             bytes
         }
     }
@@ -239,10 +287,14 @@ fn any_call(run: &mut Run, book: &Book, old: &mut Vec<u8>, most: usize, depots: 
     let n = book.list.len();
     let near = n + 2;
     let depot = |run: &mut Run| if run.rng.percent(4) { run.rng.byte() } else { run.rng.below(depots + 1) as u8 };
-    let litres = |run: &mut Run| if run.rng.percent(15) { 0 } else { *run.rng.pick(&[1, 2, 7, 65_535]) };
+    let e = book.edition;
+    let litres = |run: &mut Run| {
+        let figure = if run.rng.percent(15) { 0 } else { *run.rng.pick(&[1, 2, 7, 65_535, 65_536, 70_000, u32::MAX]) };
+        Litres::of(if run.rng.percent(5) { e.other() } else { e }, figure)
+    };
     match run.rng.below(100) {
-        0..=13 if n > 0 && run.rng.percent(40) => Call::Load(list_bytes(&next_season(&mut run.rng, &book.list))),
-        0..=13 => Call::Load(loaded(run, most, depots)),
+        0..=13 if n > 0 && run.rng.percent(40) => Call::Load(list_bytes(e, &next_season(&mut run.rng, e, &book.list))),
+        0..=13 => Call::Load(loaded(run, e, most, depots)),
         14..=19 => Call::Change(run.rng.below(near), litres(run)),
         20..=27 => Call::Add(depot(run), depot(run), litres(run)),
         28..=54 => Call::Propose(proposed(run, book, old)),
@@ -250,9 +302,9 @@ fn any_call(run: &mut Run, book: &Book, old: &mut Vec<u8>, most: usize, depots: 
         65..=72 => Call::Depot(depot(run)),
         73..=81 => Call::Difference(depot(run), depot(run)),
         82..=88 => Call::AtLeast(mark(run, book)),
-        89..=94 => Call::List(near_length(run, 4 + 6 * n)),
+        89..=94 => Call::List(near_length(run, e.list_length(n))),
         _ => {
-            let length = book.plan.as_ref().map_or(5, |plan: &Plan| plan_bytes(plan).len());
+            let length = book.plan.as_ref().map_or(5, |plan: &Plan| plan_bytes(e, plan).len());
             Call::Written(near_length(run, length))
         }
     }
@@ -267,10 +319,18 @@ fn near_length(run: &mut Run, length: usize) -> usize {
 }
 
 /// A history: so many calls from a fresh desk and a table of any content.
-fn history(run: &mut Run, places: usize, most: usize, depots: usize, calls: usize, seen: &mut Seen) -> (Bytes, Book) {
-    let mut desk = Bytes::fresh(run, places);
-    let mut book = Ok(Book::new(places));
-    let mut old = plan_bytes(&Plan { groups: vec![], shares: vec![] });
+fn history(
+    run: &mut Run,
+    e: Edition,
+    places: usize,
+    most: usize,
+    depots: usize,
+    calls: usize,
+    seen: &mut Seen,
+) -> (Bytes, Book) {
+    let mut desk = Bytes::fresh(run, e, places);
+    let mut book = Ok(Book::new(e, places));
+    let mut old = plan_bytes(e, &no_plan());
     for _ in 0..calls {
         let known = book.clone().expect("a book");
         let next = any_call(run, &known, &mut old, most, depots);
@@ -279,14 +339,16 @@ fn history(run: &mut Run, places: usize, most: usize, depots: usize, calls: usiz
     (desk, book.expect("a book"))
 }
 
-/// The desk and table with some of their bytes changed: the figures of the store, a place, any bytes, or its length; or
-/// litres with the share of their site, so that row 0 lets the plan through, whose groups may then rise.
+/// The desk and table with some of their bytes changed: the figures of the store, a place, any bytes, or its length, also
+/// to the other edition's; or litres with the share of their site, so that row 0 lets the plan through, whose groups may
+/// then rise.
 fn foreign(run: &mut Run, desk: &Bytes) -> Bytes {
+    let e = desk.edition();
     let mut desk = desk.clone();
     let put = |bytes: &mut Vec<u8>, at: usize, with: &[u8]| bytes[at..at + with.len()].copy_from_slice(with);
     match run.rng.below(13) {
         0 => {
-            let places = (desk.table.len() / 4) as u64;
+            let places = desk.places() as u64;
             let count = *run.rng.pick(&[0, 1, 2, places, places + 1, 512, 513, 1 << 32, u64::MAX]);
             put(&mut desk.store, 0, &count.to_le_bytes());
         }
@@ -304,21 +366,22 @@ fn foreign(run: &mut Run, desk: &Bytes) -> Bytes {
             put(&mut desk.store, at, &set.to_le_bytes());
         }
         4 => {
-            let at = 536 + 4 * run.rng.below(4);
-            let share = run.rng.below(40) as u32;
-            put(&mut desk.store, at, &share.to_le_bytes());
+            let at = e.store_share(run.rng.below(4));
+            // small, or great by its highest byte alone
+            let share = if run.rng.percent(80) { run.rng.below(40) as u64 } else { 1 << (8 * (e.share_bytes - 3)) };
+            put(&mut desk.store, at, &e.s(share));
         }
-        5 if desk.table.len() >= 4 => {
+        5 if desk.table.len() >= e.place_bytes() => {
             let at = run.rng.below(desk.table.len());
             desk.table[at] = *run.rng.pick(&[0, 1, 63, 64, 255]);
         }
         6 => {
             let places = run.rng.below(4);
-            desk.table.truncate(4 * places + run.rng.below(4));
+            desk.table.truncate(e.place_bytes() * places + run.rng.below(e.place_bytes()));
         }
         7 => {
-            let length = *run.rng.pick(&LENGTHS);
-            desk.store.resize(length, run.rng.byte());
+            let length = if run.rng.percent(50) { *run.rng.pick(&LENGTHS) } else { e.other().store_bytes() };
+            desk.store.resize(length, *run.rng.pick(&[0, 0, 1, 255]));
         }
         8 => desk.store.iter_mut().for_each(|b| *b = run.rng.byte()),
         9..=11 => {
@@ -326,11 +389,11 @@ fn foreign(run: &mut Run, desk: &Bytes) -> Bytes {
             if book.plan.is_some() && !book.list.is_empty() {
                 let site = run.rng.below(book.list.len());
                 let Ok(Told::Figures(share, whole)) = book.answer(&Call::Share(site)) else { panic!("a share") };
-                let litres = *run.rng.pick(&[1u16, 2, 9, 200, 65_535]);
+                let litres = *run.rng.pick(&[1, 2, 9, 200, 65_535, e.most()]);
                 let other = whole / u64::from(book.list[site].litres) * u64::from(litres);
                 let share = if share == whole { other } else { share.min(other) };
-                put(&mut desk.table, 4 * site + 2, &litres.to_le_bytes());
-                put(&mut desk.store, 536 + 4 * site, &(share as u32).to_le_bytes());
+                put(&mut desk.table, e.place_bytes() * site + 2, &e.litres(litres));
+                put(&mut desk.store, e.store_share(site), &e.s(share));
             }
         }
         _ => {
@@ -341,11 +404,12 @@ fn foreign(run: &mut Run, desk: &Bytes) -> Bytes {
     desk
 }
 
-/// Histories of desk calls, at least `calls` of them, and calls of foreign bytes.
+/// Histories of desk calls in either edition, at least `calls` of them, and calls of foreign bytes.
 pub fn histories(run: &mut Run, calls: usize) -> Seen {
-    let mut seen = [[0; 23]; 10];
+    let mut seen = NONE;
     let end = run.cases + calls;
     while run.cases < end {
+        let e = *run.rng.pick(&EDITIONS);
         let (places, most, depots, calls) = match run.rng.below(100) {
             0..=4 => (0, 2, 2, 20),
             5..=49 => (run.rng.from_to(1, 6), 7, 4, 60),
@@ -353,94 +417,115 @@ pub fn histories(run: &mut Run, calls: usize) -> Seen {
             90..=97 => (run.rng.from_to(100, 600), 60, 20, 40),
             _ => (*run.rng.pick(&[511, 512, 513, 600]), 512, 64, 30),
         };
-        let (desk, book) = history(run, places, most, depots, calls, &mut seen);
+        let (desk, book) = history(run, e, places, most, depots, calls, &mut seen);
         round_trip(run, &desk, &book, &mut seen);
         for _ in 0..10 {
             let mut desk = foreign(run, &desk);
             let mut book = held(&desk.store, &desk.table);
             for _ in 0..4 {
-                let known = book.clone().unwrap_or_else(|_| Book::new(desk.table.len() / 4));
-                let next = any_call(
-                    run,
-                    &known,
-                    &mut plan_bytes(&Plan { groups: vec![], shares: vec![] }),
-                    most.min(8),
-                    depots,
-                );
+                let known = book.clone().unwrap_or_else(|_| Book::new(desk.edition(), desk.places()));
+                let mut old = plan_bytes(known.edition, &no_plan());
+                let next = any_call(run, &known, &mut old, most.min(8), depots);
                 call(run, &mut desk, &mut book, &next, &mut seen);
             }
         }
     }
-    full(run, &mut seen);
-    lengths(run, &mut seen);
-    marks(run, &mut seen);
-    lists(run, &mut seen);
+    for e in EDITIONS {
+        full(run, e, &mut seen);
+        differences(run, e, &mut seen);
+        lengths(run, e, &mut seen);
+        other_edition(run, e, &mut seen);
+        marks(run, e, &mut seen);
+        lists(run, e, &mut seen);
+    }
     seen
+}
+
+/// An own site.
+fn own(depot: usize, litres: u32) -> Site {
+    site(depot as u8, depot as u8, litres)
 }
 
 /// Marks whose sets are worked out here: plans that pass, with the groups falling, and held groups that do not fall, which
 /// row 0 lets through.
-fn marks(run: &mut Run, seen: &mut Seen) {
-    let pair = |first: u8, second: u8, litres: u16| Site { first, second, litres };
-    let own = |depot: usize, litres: u16| pair(depot as u8, depot as u8, litres);
-    let all = u64::MAX;
+fn marks(run: &mut Run, e: Edition, seen: &mut Seen) {
+    let (all, most) = (u64::MAX, u32::MAX);
     let mut cases: Vec<(Vec<Site>, Vec<(u32, u64)>)> = vec![
         // no sites
-        (vec![], vec![(0, 0), (1, 0), (u32::MAX, 0)]),
+        (vec![], vec![(0, 0), (1, 0), (most, 0)]),
         // T: 10/2 each; 2 x 2^31 is 0 in 32 bits
-        (
-            vec![pair(0, 1, 10)],
-            vec![(0, 3), (4, 3), (5, 3), (6, 0), (65_536, 0), (65_541, 0), (1 << 31, 0), (u32::MAX, 0)],
-        ),
+        (vec![site(0, 1, 10)], vec![(0, 3), (4, 3), (5, 3), (6, 0), (65_536, 0), (65_541, 0), (1 << 31, 0), (most, 0)]),
         // 11/2 and 5
-        (vec![own(0, 5), pair(0, 1, 6), own(2, 5)], vec![(0, 7), (5, 7), (6, 0), (1 << 31, 0)]),
+        (vec![own(0, 5), site(0, 1, 6), own(2, 5)], vec![(0, 7), (5, 7), (6, 0), (1 << 31, 0)]),
         // 9/2 and 1
-        (vec![pair(0, 1, 9), pair(1, 2, 1)], vec![(0, 7), (1, 7), (2, 3), (4, 3), (5, 0), (1 << 31, 0)]),
-        // depot 0 alone, with all that a list can have
-        (
-            vec![own(0, 65_535); 512],
-            vec![(65_536, 1), (33_553_919, 1), (33_553_920, 1), (33_553_921, 0), (u32::MAX, 0)],
-        ),
+        (vec![site(0, 1, 9), site(1, 2, 1)], vec![(0, 7), (1, 7), (2, 3), (4, 3), (5, 0), (1 << 31, 0)]),
+        // depot 0 alone with 512 sites of 65,535
+        (vec![own(0, 65_535); 512], vec![(65_536, 1), (33_553_919, 1), (33_553_920, 1), (33_553_921, 0), (most, 0)]),
         // the same litres with 64 depots: 524,280 each; 64 x 2^26 is 0 in 32 bits
         (
-            (0..512).map(|i| own(i % 64, 65_535)).collect(),
-            vec![(0, all), (65_536, all), (524_280, all), (524_281, 0), (1 << 26, 0), (u32::MAX, 0)],
+            known::own_sites(65_535),
+            vec![(0, all), (65_536, all), (524_280, all), (524_281, 0), (1 << 26, 0), (most, 0)],
         ),
     ];
-    // 64 groups: each depot by itself, and each 1,000 litres below the one before
+    if e == TWO {
+        cases.extend([
+            // 65,536 is 0 in 16 bits
+            (vec![own(0, 65_536), own(1, 65_535)], vec![(65_535, 3), (65_536, 1), (65_537, 0), (131_072, 0)]),
+            // the greatest mark, reached and missed by one litre
+            (vec![own(0, most)], vec![(0, 1), (65_536, 1), (most - 1, 1), (most, 1)]),
+            (vec![own(0, most - 1)], vec![(most - 1, 1), (most, 0)]),
+            // half of the most litres is no whole number
+            (vec![site(0, 1, most)], vec![(2_147_483_647, 3), (2_147_483_648, 0), (most, 0)]),
+            // W of 41 bits, with one depot and with 64
+            (vec![own(0, most); 512], vec![(0, 1), (most, 1)]),
+            (known::own_sites(most), vec![(0, all), (most, all)]),
+            // 64 depots that bring the most litres each, and one litre less
+            (known::own_sites(most)[..64].to_vec(), vec![(most - 1, all), (most, all)]),
+            (known::own_sites(most - 1)[..64].to_vec(), vec![(most - 1, all), (most, 0)]),
+        ]);
+    }
+    // 64 groups: each depot by itself, and each a step below the one before
     let place = |k: usize| 37 * k % 64;
-    let steps: Vec<Site> = (0..64).map(|k| own(place(k), 64_000 - 1_000 * k as u16)).collect();
-    let mut asked = vec![(0, all), (1, all), (65_535, 0), (65_536, 0), (u32::MAX, 0)];
+    let step = if e == ONE { 1_000 } else { 66_000_000 };
+    let steps: Vec<Site> = (0..64).map(|k| own(place(k), 64 * step - step * k as u32)).collect();
+    let mut asked = vec![(0, all), (1, all), (64 * step + 1, 0), (most, 0)];
     let mut set = 0;
     for (k, site) in steps.iter().enumerate() {
-        let litres = u32::from(site.litres);
-        asked.extend([(litres + 1, set), (litres + 500, set), (65_536 + litres, 0)]);
+        let litres = site.litres;
+        asked.extend([(litres + 1, set), (litres + step / 2, set)]);
+        if e == ONE {
+            asked.push((65_536 + litres, 0));
+        }
         set |= 1 << place(k);
         asked.extend([(litres, set), (litres - 1, set)]);
     }
     cases.push((steps, asked));
     for (sites, asked) in cases {
-        let mut desk = Bytes::fresh(run, sites.len());
-        let mut book = Ok(Book::new(sites.len()));
-        let plan = plan_bytes(&run.plan(&sites));
-        call(run, &mut desk, &mut book, &Call::Load(list_bytes(&sites)), seen);
+        let mut desk = Bytes::fresh(run, e, sites.len());
+        let mut book = Ok(Book::new(e, sites.len()));
+        let plan = plan_bytes(e, &run.plan(&sites));
+        call(run, &mut desk, &mut book, &Call::Load(list_bytes(e, &sites)), seen);
         call(run, &mut desk, &mut book, &Call::AtLeast(asked[0].0), seen);
         call(run, &mut desk, &mut book, &Call::Propose(plan), seen);
         ask(run, &mut desk, &mut book, &asked, seen);
     }
     // own sites of depots 0, 1, .., each a held group of its own, in this order: rising, equal, falling and rising again
-    let held_groups: [(&[u16], &[(u32, u64)]); 4] = [
+    let mut held_groups: Vec<(&[u32], &[(u32, u64)])> = vec![
         (&[4, 9], &[(0, 3), (4, 3), (5, 0), (9, 0), (10, 0), (65_540, 0), (u32::MAX, 0)]),
         (&[4, 4], &[(0, 3), (4, 3), (5, 0)]),
         (&[9, 4, 9], &[(0, 7), (4, 7), (5, 1), (9, 1), (10, 0)]),
         (&[9, 9, 1, 8, 2], &[(1, 31), (2, 3), (8, 3), (9, 3), (10, 0)]),
     ];
+    if e == TWO {
+        let far: &[(u32, u64)] = &[(0, 7), (1, 7), (2, 1), (65_536, 1), (65_537, 0), (u32::MAX, 0)];
+        held_groups.push((&[65_536, 1, 4_294_967_295], far));
+    }
     for (litres, asked) in held_groups {
         let sites: Vec<Site> = litres.iter().enumerate().map(|(d, &w)| own(d, w)).collect();
         let groups = (0..sites.len()).map(|d| 1 << d).collect();
-        let shares = litres.iter().map(|&w| u32::from(w)).collect();
-        let mut desk = Bytes::fresh(run, sites.len());
-        let written = Book::holding(sites.len(), sites, Some(Plan { groups, shares }));
+        let shares = litres.iter().map(|&w| u64::from(w)).collect();
+        let mut desk = Bytes::fresh(run, e, sites.len());
+        let written = Book::holding(e, sites.len(), sites, Some(Plan { groups, shares }));
         desk.store = written.store();
         desk.table = written.table(&desk.table);
         let mut book = held(&desk.store, &desk.table);
@@ -451,42 +536,7 @@ fn marks(run: &mut Run, seen: &mut Seen) {
 /// Marks, each with the set that is to be answered: that of the book too.
 fn ask(run: &mut Run, desk: &mut Bytes, book: &mut Result<Book, Refusal>, asked: &[(u32, u64)], seen: &mut Seen) {
     for &(mark, set) in asked {
-        let told = book.as_mut().map_err(|refusal| *refusal).map(|book| book.answer(&Call::AtLeast(mark)));
-        if told != Ok(Ok(Told::Depots(set))) {
-            run.fail(&format!("the book answers {told:?} to mark {mark}, not {set:#x}"), &[("store", &desk.store)]);
-        }
-        call(run, desk, book, &Call::AtLeast(mark), seen);
-    }
-}
-
-/// The list that a desk holds, written out: loaded into a fresh desk with a place for each site and maybe more, it is
-/// the same list again, and it is written out as the same bytes. A table with a place too few refuses it by row 2.
-fn round_trip(run: &mut Run, desk: &Bytes, book: &Book, seen: &mut Seen) {
-    let list = list_bytes(&book.list);
-    let mut from = desk.clone();
-    let mut known = Ok(book.clone());
-    if told(&known, &Call::List(list.len())) != Ok(Told::Wrote(list.clone())) {
-        run.fail("the book does not write its list", &[("list", &list)]);
-    }
-    call(run, &mut from, &mut known, &Call::List(list.len()), seen);
-    let sites = book.list.len();
-    let places = sites + *run.rng.pick(&[0, 0, 1, 40]);
-    let mut desk = Bytes::fresh(run, places);
-    let mut other = Ok(Book::new(places));
-    for next in [Call::Load(list.clone()), Call::List(list.len()), Call::List(list.len() + 7)] {
-        call(run, &mut desk, &mut other, &next, seen);
-    }
-    if other.as_ref().map(|other| &other.list) != Ok(&book.list) {
-        run.fail("what was written out is another list when it is loaded", &[("list", &list)]);
-    }
-    if sites > 0 {
-        let mut desk = Bytes::fresh(run, sites - 1);
-        let mut other = Ok(Book::new(sites - 1));
-        if told(&other, &Call::Load(list.clone())) != Err(Refusal::Row(2)) {
-            run.fail("a place too few for the list written out, and no row 2", &[("list", &list)]);
-        }
-        call(run, &mut desk, &mut other, &Call::Load(list), seen);
-        call(run, &mut desk, &mut other, &Call::List(4), seen);
+        expect(run, desk, book, &Call::AtLeast(mark), Ok(Told::Depots(set)), seen);
     }
 }
 
@@ -495,59 +545,121 @@ fn told(book: &Result<Book, Refusal>, call: &Call) -> Result<Told, Refusal> {
     book.clone()?.answer(call).map_err(Refusal::Row)
 }
 
+/// A call whose answer is known here: the book's is the same.
+fn expect(
+    run: &mut Run,
+    desk: &mut Bytes,
+    book: &mut Result<Book, Refusal>,
+    next: &Call,
+    wanted: Result<Told, Refusal>,
+    seen: &mut Seen,
+) {
+    let told = told(book, next);
+    if told != wanted {
+        let what = format!("the book answers {told:?} to {next:?}, not {wanted:?}");
+        run.fail(&what, &[("store", &desk.store), ("table", &desk.table)]);
+    }
+    call(run, desk, book, next, seen);
+}
+
+/// The list that a desk holds, written out: loaded into a fresh desk with a place for each site and maybe more, it is
+/// the same list again, and it is written out as the same bytes. A table with a place too few refuses it by row 2, a desk
+/// of the other edition by row 1.
+fn round_trip(run: &mut Run, desk: &Bytes, book: &Book, seen: &mut Seen) {
+    let e = book.edition;
+    let list = list_bytes(e, &book.list);
+    let mut from = desk.clone();
+    let mut known = Ok(book.clone());
+    expect(run, &mut from, &mut known, &Call::List(list.len()), Ok(Told::Wrote(list.clone())), seen);
+    let sites = book.list.len();
+    let places = sites + *run.rng.pick(&[0, 0, 1, 40]);
+    let mut desk = Bytes::fresh(run, e, places);
+    let mut other = Ok(Book::new(e, places));
+    for next in [Call::Load(list.clone()), Call::List(list.len()), Call::List(list.len() + 7)] {
+        call(run, &mut desk, &mut other, &next, seen);
+    }
+    if other.as_ref().map(|other| &other.list) != Ok(&book.list) {
+        run.fail("what was written out is another list when it is loaded", &[("list", &list)]);
+    }
+    let mut desk = Bytes::fresh(run, e.other(), places);
+    let mut other = Ok(Book::new(e.other(), places));
+    expect(run, &mut desk, &mut other, &Call::Load(list.clone()), Err(Refusal::Row(1)), seen);
+    if sites > 0 {
+        let mut desk = Bytes::fresh(run, e, sites - 1);
+        let mut other = Ok(Book::new(e, sites - 1));
+        expect(run, &mut desk, &mut other, &Call::Load(list), Err(Refusal::Row(2)), seen);
+        call(run, &mut desk, &mut other, &Call::List(4), seen);
+    }
+}
+
 /// Lists whose bytes are worked out here, and buffers around their lengths, with and without a plan held; and desks
 /// that row 0 refuses, whatever the buffer.
-fn lists(run: &mut Run, seen: &mut Seen) {
-    let site = |first: u8, second: u8, litres: u16| Site { first, second, litres };
-    let mut cases: Vec<(Vec<Site>, Vec<u8>)> = vec![
-        (vec![], b"LS\0\0".to_vec()),
-        (vec![site(0, 1, 10)], b"LS\x01\0ST\x00\x01\x0A\0".to_vec()),
-        // the order of sites and of a site's depots, equal sites, the ends of depots and litres
-        (
+fn lists(run: &mut Run, e: Edition, seen: &mut Seen) {
+    let empty = if e == ONE { b"LS\0\0" } else { b"L2\0\0" };
+    let mut cases: Vec<(Vec<Site>, Vec<u8>)> = vec![(vec![], empty.to_vec())];
+    // the order of sites and of a site's depots, equal sites, the ends of depots and litres
+    if e == ONE {
+        cases.push((vec![site(0, 1, 10)], b"LS\x01\0ST\x00\x01\x0A\0".to_vec()));
+        cases.push((
             vec![site(63, 0, 65_535), site(0, 63, 1), site(0, 63, 1), site(63, 63, 256), site(5, 5, 255)],
             b"LS\x05\0ST\x3F\x00\xFF\xFFST\x00\x3F\x01\0ST\x00\x3F\x01\0ST\x3F\x3F\0\x01ST\x05\x05\xFF\0".to_vec(),
-        ),
-    ];
+        ));
+    } else {
+        cases.push((vec![site(0, 1, 70_000)], b"L2\x01\0S2\x00\x01\x70\x11\x01\0".to_vec()));
+        cases.push((
+            vec![site(63, 0, u32::MAX), site(0, 63, 1), site(0, 63, 1), site(63, 63, 65_536), site(5, 5, 0x0102_0304)],
+            b"L2\x05\0S2\x3F\x00\xFF\xFF\xFF\xFFS2\x00\x3F\x01\0\0\0S2\x00\x3F\x01\0\0\0S2\x3F\x3F\0\0\x01\0S2\x05\x05\x04\x03\x02\x01"
+                .to_vec(),
+        ));
+    }
     // counts of one byte and of two
+    let (marks, step) = if e == ONE { (*b"LSST", 127) } else { (*b"L2S2", 8_388_479) };
     for n in [255, 256, 257, 511, 512] {
-        let sites: Vec<Site> = (0..n).map(|i| site((i % 64) as u8, (i / 8) as u8, (65_535 - 127 * i) as u16)).collect();
-        let mut bytes = vec![0x4C, 0x53, (n % 256) as u8, (n / 256) as u8];
+        let sites: Vec<Site> = (0..n).map(|i| site((i % 64) as u8, (i / 8) as u8, e.most() - step * i)).collect();
+        let mut bytes = vec![marks[0], marks[1], (n % 256) as u8, (n / 256) as u8];
         for s in &sites {
-            bytes.extend([0x53, 0x54, s.first, s.second, (s.litres % 256) as u8, (s.litres / 256) as u8]);
+            bytes.extend([marks[2], marks[3], s.first, s.second, (s.litres % 256) as u8, (s.litres / 256 % 256) as u8]);
+            if e == TWO {
+                bytes.extend([(s.litres / 65_536 % 256) as u8, (s.litres / 16_777_216) as u8]);
+            }
         }
         cases.push((sites, bytes));
     }
+    // litres whose bytes all differ: in edition 1 the low two of them
+    let (changed_to, added) = (Litres::of(e, 0x89AB_CDEF), Litres::of(e, 0x5678_1234));
+    let width = if e == ONE { 2 } else { 4 };
     for (sites, bytes) in cases {
         let length = bytes.len();
-        if length != 4 + 6 * sites.len() {
+        if length != 4 + (4 + width) * sites.len() {
             run.fail("a list written here has another length", &[("list", &bytes)]);
         }
         for places in [sites.len(), sites.len() + 3] {
-            let mut desk = Bytes::fresh(run, places);
-            let mut book = Ok(Book::new(places));
-            let plan = plan_bytes(&run.plan(&sites));
+            let mut desk = Bytes::fresh(run, e, places);
+            let mut book = Ok(Book::new(e, places));
+            let plan = plan_bytes(e, &run.plan(&sites));
             // before any list
-            write_out(run, &mut desk, &mut book, b"LS\0\0", seen);
+            write_out(run, &mut desk, &mut book, empty, seen);
             call(run, &mut desk, &mut book, &Call::Load(bytes.clone()), seen);
             write_out(run, &mut desk, &mut book, &bytes, seen);
             call(run, &mut desk, &mut book, &Call::Propose(plan), seen);
             write_out(run, &mut desk, &mut book, &bytes, seen);
-            corrupted(run, &desk, length, seen);
+            corrupted(run, &desk, sites.len(), seen);
             // refused calls: the same list
             call(run, &mut desk, &mut book, &Call::Load(bytes[..length - 1].to_vec()), seen);
-            call(run, &mut desk, &mut book, &Call::Change(sites.len(), 1), seen);
-            call(run, &mut desk, &mut book, &Call::Add(64, 0, 1), seen);
+            call(run, &mut desk, &mut book, &Call::Change(sites.len(), Litres::of(e, 1)), seen);
+            call(run, &mut desk, &mut book, &Call::Add(64, 0, Litres::of(e, 1)), seen);
             write_out(run, &mut desk, &mut book, &bytes, seen);
             if !sites.is_empty() {
                 let mut changed = bytes.clone();
-                changed[length - 2..].copy_from_slice(&[0xCD, 0xAB]);
-                call(run, &mut desk, &mut book, &Call::Change(sites.len() - 1, 0xABCD), seen);
+                changed[length - width..].copy_from_slice(&[0xEF, 0xCD, 0xAB, 0x89][..width]);
+                call(run, &mut desk, &mut book, &Call::Change(sites.len() - 1, changed_to), seen);
                 write_out(run, &mut desk, &mut book, &changed, seen);
             }
-            let mut more = list_bytes(&book.as_ref().expect("a book").list);
-            call(run, &mut desk, &mut book, &Call::Add(62, 7, 0x1234), seen);
+            let mut more = list_bytes(e, &book.as_ref().expect("a book").list);
+            call(run, &mut desk, &mut book, &Call::Add(62, 7, added), seen);
             if sites.len() < places.min(512) {
-                more.extend(b"ST\x3E\x07\x34\x12");
+                more.extend([marks[2], marks[3], 0x3E, 0x07]);
+                more.extend(&[0x34, 0x12, 0x78, 0x56][..width]);
                 more[2..4].copy_from_slice(&(sites.len() as u16 + 1).to_le_bytes());
             }
             write_out(run, &mut desk, &mut book, &more, seen);
@@ -558,21 +670,19 @@ fn lists(run: &mut Run, seen: &mut Seen) {
 /// The list written out into buffers of its length, one byte fewer, one more, fewer and more by a record, none, around
 /// a head, and of the longest list; `bytes` is what is to be written, by the book too.
 fn write_out(run: &mut Run, desk: &mut Bytes, book: &mut Result<Book, Refusal>, bytes: &[u8], seen: &mut Seen) {
-    let n = bytes.len();
-    for room in [n, n - 1, n + 1, n.saturating_sub(6), n + 6, n - 4, 0, 1, 3, 4, sulgheti::LIST_MAX] {
+    let (n, record) = (bytes.len(), desk.edition().site_bytes);
+    let longest = desk.edition().list_length(512);
+    for room in [n, n - 1, n + 1, n.saturating_sub(record), n + record, n - 4, 0, 1, 3, 4, longest] {
         let wanted = if room < n { Err(Refusal::Row(20)) } else { Ok(Told::Wrote(bytes.to_vec())) };
-        let told = told(book, &Call::List(room));
-        if told != wanted {
-            run.fail(&format!("the book answers {told:?} to a list into {room} bytes"), &[("list", bytes)]);
-        }
-        call(run, desk, book, &Call::List(room), seen);
+        expect(run, desk, book, &Call::List(room), wanted, seen);
     }
 }
 
-/// Row 0 before row 20: the count of sites, whether a plan is held, the groups, a share, a depot and litres of the
-/// table, or a table cut off; into buffers of the list's length, one byte fewer and none.
-fn corrupted(run: &mut Run, desk: &Bytes, length: usize, seen: &mut Seen) {
-    let count = (length - 4) / 6;
+/// Row 0 before row 20, on a desk of so many sites: the count of sites, whether a plan is held, the groups, a share, a
+/// depot and litres of the table, or a table cut off; into buffers of the list's length, one byte fewer and none.
+fn corrupted(run: &mut Run, desk: &Bytes, count: usize, seen: &mut Seen) {
+    let e = desk.edition();
+    let (length, end) = (e.list_length(count), e.place_bytes() * count);
     let mut desks = vec![];
     let mut damaged = |change: &dyn Fn(&mut Bytes)| {
         let mut other = desk.clone();
@@ -580,7 +690,10 @@ fn corrupted(run: &mut Run, desk: &Bytes, length: usize, seen: &mut Seen) {
         desks.push(other);
     };
     damaged(&|d| d.store[..8].fill(0xFF));
-    damaged(&|d| d.store[..8].copy_from_slice(&(d.table.len() as u64 / 4 + 1).to_le_bytes()));
+    damaged(&|d| {
+        let more = d.places() as u64 + 1;
+        d.store[..8].copy_from_slice(&more.to_le_bytes());
+    });
     damaged(&|d| d.store[4] = 1);
     damaged(&|d| d.store[8] = 2);
     damaged(&|d| d.store[15] = 1);
@@ -588,30 +701,42 @@ fn corrupted(run: &mut Run, desk: &Bytes, length: usize, seen: &mut Seen) {
     damaged(&|d| d.store[16] = d.store[16].wrapping_add(1));
     if count > 0 {
         damaged(&|d| d.store[24..32].fill(0));
-        damaged(&|d| d.store[536 + 4 * count - 1] = 0xFF);
+        damaged(&|d| d.store[e.store_share(count) - 1] = 0xFF);
         damaged(&|d| d.table[0] = 64);
-        damaged(&|d| d.table[4 * count - 3] = 255);
-        damaged(&|d| d.table[4 * count - 2..4 * count].fill(0));
-        damaged(&|d| d.table.truncate(4 * count - 1));
+        damaged(&|d| d.table[end - e.place_bytes() + 1] = 255);
+        damaged(&|d| d.table[end - e.place_bytes() + 2..end].fill(0));
+        damaged(&|d| d.table.truncate(end - 1));
         damaged(&|d| d.table.clear());
+    }
+    if count > 0 && e == TWO {
+        // above the 38 bits that w x q can have
+        damaged(&|d| d.store[e.store_share(0) + 4] = 0xFF);
     }
     for mut desk in desks {
         let mut book = held(&desk.store, &desk.table);
         for room in [length, length - 1, 0] {
-            if told(&book, &Call::List(room)) != Err(Refusal::Row(0)) {
-                run.fail("a desk that is to be corrupt is not", &[("store", &desk.store), ("table", &desk.table)]);
-            }
-            call(run, &mut desk, &mut book, &Call::List(room), seen);
+            expect(run, &mut desk, &mut book, &Call::List(room), Err(Refusal::Row(0)), seen);
         }
     }
 }
 
-/// Stores of other lengths, cut off or with bytes behind: every call, which the store itself grants or which a row
-/// refuses, leaves all as it was, and so does a fresh one.
-fn lengths(run: &mut Run, seen: &mut Seen) {
-    let sites = vec![Site { first: 0, second: 1, litres: 10 }];
-    let list = list_bytes(&sites);
-    let plan = plan_bytes(&run.plan(&sites));
+/// T as a list of an edition and its plan, and a desk that holds both.
+fn holding_t(run: &mut Run, e: Edition, seen: &mut Seen) -> (Vec<u8>, Vec<u8>, Bytes, Result<Book, Refusal>) {
+    let (list, plan) = known::t(e);
+    let mut desk = Bytes::fresh(run, e, 3);
+    let mut book = Ok(Book::new(e, 3));
+    for next in [Call::Load(list.clone()), Call::Propose(plan.clone())] {
+        expect(run, &mut desk, &mut book, &next, Ok(Told::Done), seen);
+    }
+    (list, plan, desk, book)
+}
+
+/// Stores of other lengths, cut off or with bytes behind, and of the other edition's, where they are what they are read
+/// as: every call, which the store itself grants or which a row refuses, and those of the other edition. Where there is
+/// no store all is left as it was, by a fresh one of either edition too.
+fn lengths(run: &mut Run, e: Edition, seen: &mut Seen) {
+    let (list, plan, held_plan, book) = holding_t(run, e, seen);
+    let litres = |figure: u32| Litres::of(e, figure);
     let granted = [
         Call::Share(0),
         Call::Depot(1),
@@ -620,8 +745,8 @@ fn lengths(run: &mut Run, seen: &mut Seen) {
         Call::AtLeast(5),
         Call::List(list.len()),
         Call::Propose(plan.clone()),
-        Call::Add(1, 2, 3),
-        Call::Change(0, 11),
+        Call::Add(1, 2, litres(3)),
+        Call::Change(0, litres(11)),
         Call::Load(list.clone()),
     ];
     let refused = [
@@ -631,66 +756,149 @@ fn lengths(run: &mut Run, seen: &mut Seen) {
         Call::Written(0),
         Call::List(0),
         Call::Propose(vec![]),
-        Call::Add(64, 2, 3),
-        Call::Change(0, 0),
+        Call::Add(64, 2, litres(3)),
+        Call::Change(0, litres(0)),
         Call::Load(vec![]),
     ];
-    // a store that holds the plan, one that row 0 refuses, and one without sites
-    let mut held_plan = Bytes::fresh(run, 3);
-    let mut book = Ok(Book::new(3));
-    for next in [Call::Load(list), Call::Propose(plan)] {
-        call(run, &mut held_plan, &mut book, &next, seen);
-    }
+    // the other edition's, with litres that a row of its own store refuses and without
+    let of_other = [(0, 11), (0, 0), (1, 65_535), (0, u32::MAX)].map(|(site, figure)| {
+        let litres = Litres::of(e.other(), figure);
+        [Call::Change(site, litres), Call::Add(1, 2, litres), Call::Add(64, 2, litres)]
+    });
     for next in &granted {
         call(run, &mut held_plan.clone(), &mut book.clone(), next, seen);
     }
     let mut corrupt = held_plan.clone();
     corrupt.store[..8].fill(0xFF);
-    for desk in [held_plan, corrupt, Bytes::fresh(run, 0)] {
-        for length in LENGTHS {
+    for desk in [held_plan, corrupt, Bytes::fresh(run, e, 0)] {
+        for length in LENGTHS.into_iter().chain(EDITIONS.map(Edition::store_bytes)) {
             let mut desk = desk.clone();
             let fill = run.rng.byte();
             let behind = desk.store.get(length..).unwrap_or(&[]).to_vec();
             desk.store.resize(length, fill);
-            for next in granted.iter().chain(&refused) {
+            for next in of_other.iter().flatten().chain(&refused).chain(&granted) {
                 let mut book = held(&desk.store, &desk.table);
                 call(run, &mut desk, &mut book, next, seen);
             }
-            run.cases += 1;
-            let mut store = Lent::new(&mut run.rng, &desk.store, &behind);
-            let code = lent::fresh(&mut store);
-            if sized(&desk.store).map_err(Refusal::code) != Err(code) || !store.unchanged_from(0) {
-                run.fail(&format!("a fresh store in {length} bytes answers {code}"), &[("store", &desk.store)]);
+            for f in EDITIONS {
+                run.cases += 1;
+                let mut store = Lent::new(&mut run.rng, &desk.store, &behind);
+                let code = lent::fresh(f, &mut store);
+                let right = if sized(&desk.store) == Ok(f) {
+                    code == 0 && store.bytes() == Book::new(f, 0).store() && store.kept_around()
+                } else {
+                    code == Refusal::NoStore.code() && store.unchanged_from(0)
+                };
+                if !right {
+                    let what = format!("a fresh store of edition {} in {length} bytes answers {code}", f.number);
+                    run.fail(&what, &[("store", &desk.store)]);
+                }
             }
         }
     }
 }
 
-/// A desk with 512 sites, in a table that has room for more: no site can be added.
-fn full(run: &mut Run, seen: &mut Seen) {
-    for places in [512, 513, 600] {
-        let mut desk = Bytes::fresh(run, places);
-        let mut book = Ok(Book::new(places));
-        let sites: Vec<Site> =
-            (0..512).map(|i| Site { first: (i % 64) as u8, second: (i % 63) as u8, litres: 65_535 }).collect();
-        let plan = plan_bytes(&run.plan(&sites));
+/// "A desk takes lists and plans of its own edition only; row 1 or row 7 refuses the other": whole, and by their heads
+/// alone; and heads of neither. The plan that is held stays held, and its figures are answered.
+fn other_edition(run: &mut Run, e: Edition, seen: &mut Seen) {
+    let (list, plan, mut desk, mut book) = holding_t(run, e, seen);
+    let other = e.other();
+    let (other_list, other_plan) = known::t(other);
+    let headed = |mark: &[u8; 2], bytes: &[u8]| [&mark[..], &bytes[2..]].concat();
+    let lists = [
+        other_list.clone(),
+        list_bytes(other, &[]),
+        headed(&other.list, &list),
+        headed(b"L3", &list),
+        headed(b"L1", &list),
+        headed(b"L3", &other_list),
+    ];
+    let plans = [
+        other_plan.clone(),
+        plan_bytes(other, &no_plan()),
+        headed(&other.plan, &plan),
+        headed(b"P3", &plan),
+        headed(b"P1", &plan),
+        headed(b"P3", &other_plan),
+    ];
+    for (list, plan) in lists.into_iter().zip(plans) {
+        expect(run, &mut desk, &mut book, &Call::Load(list), Err(Refusal::Row(1)), seen);
+        expect(run, &mut desk, &mut book, &Call::Propose(plan), Err(Refusal::Row(7)), seen);
+        expect(run, &mut desk, &mut book, &Call::Share(0), Ok(Told::Figures(10, 20)), seen);
+        expect(run, &mut desk, &mut book, &Call::Depot(1), Ok(Told::Figures(10, 2)), seen);
+    }
+    expect(run, &mut desk, &mut book, &Call::Written(plan.len()), Ok(Told::Wrote(plan.clone())), seen);
+    // on a corrupt store a load tries its own rows
+    let mut corrupt = desk.clone();
+    corrupt.store[..8].fill(0xFF);
+    for list in [other_list.clone(), list_bytes(other, &[]), headed(b"L3", &list), list] {
+        let mut book = held(&corrupt.store, &corrupt.table);
+        call(run, &mut corrupt, &mut book, &Call::Load(list), seen);
+    }
+    // the other's records under this edition's head: their length is another, but without sites there are none
+    let records = headed(&e.list, &other_list);
+    expect(run, &mut desk, &mut book, &Call::Load(records), Err(Refusal::Row(3)), seen);
+    let records = headed(&e.plan, &other_plan);
+    expect(run, &mut desk, &mut book, &Call::Propose(records), Err(Refusal::Row(10)), seen);
+    let records = headed(&e.list, &list_bytes(other, &[]));
+    expect(run, &mut desk, &mut book, &Call::Load(records), Ok(Told::Done), seen);
+    let records = headed(&e.plan, &plan_bytes(other, &no_plan()));
+    expect(run, &mut desk, &mut book, &Call::Propose(records), Ok(Told::Done), seen);
+}
+
+/// A desk with 512 sites of the most litres, in a table that has room for more: no site can be added.
+fn full(run: &mut Run, e: Edition, seen: &mut Seen) {
+    let most = e.most();
+    // any pairs; own sites of every depot; one depot alone
+    let pairs: Vec<Site> = (0..512).map(|i| site((i % 64) as u8, (i % 63) as u8, most)).collect();
+    for (places, sites) in [(512, pairs), (513, known::own_sites(most)), (600, vec![own(63, most); 512])] {
+        let mut desk = Bytes::fresh(run, e, places);
+        let mut book = Ok(Book::new(e, places));
+        let plan = plan_bytes(e, &run.plan(&sites));
         let calls = [
-            Call::Load(list_bytes(&sites)),
-            Call::Add(0, 0, 1),
+            Call::Load(list_bytes(e, &sites)),
+            Call::Add(0, 0, Litres::of(e, 1)),
             Call::Propose(plan),
             Call::Share(511),
             Call::Share(512),
-        ];
-        for next in calls.into_iter().chain([
             Call::Depot(63),
             Call::Difference(0, 63),
-            Call::Written(3_717),
+            Call::Difference(63, 63),
+            Call::Written(e.plan_length(64, 512)),
             Call::AtLeast(524_280),
-            Call::List(3_076),
-            Call::List(3_075),
-            Call::Add(0, 0, 1),
-        ]) {
+            Call::AtLeast(u32::MAX),
+            Call::List(e.list_length(512)),
+            Call::List(e.list_length(512) - 1),
+            Call::Add(0, 0, Litres::of(e, 1)),
+            Call::Change(511, Litres::of(e, most)),
+            Call::Share(511),
+        ];
+        for next in calls {
             call(run, &mut desk, &mut book, &next, seen);
         }
     }
+}
+
+/// The largest difference and the least: depot 0 by itself with 480 sites of the most litres, and 63 depots with one litre
+/// each from the other 32 sites.
+fn differences(run: &mut Run, e: Edition, seen: &mut Seen) {
+    let mut sites = vec![own(0, e.most()); 480];
+    sites.extend((0..31).map(|k| site(2 * k + 1, 2 * k + 2, 2)));
+    sites.push(own(63, 1));
+    let mut desk = Bytes::fresh(run, e, 512);
+    let mut book = Ok(Book::new(e, 512));
+    let plan = plan_bytes(e, &run.plan(&sites));
+    for next in [Call::Load(list_bytes(e, &sites)), Call::Propose(plan)] {
+        expect(run, &mut desk, &mut book, &next, Ok(Told::Done), seen);
+    }
+    let litres = 480 * u64::from(e.most());
+    let difference = 63 * litres as i64 - 63;
+    for (a, b, difference, divisor) in
+        [(0, 63, difference, 63), (62, 0, -difference, 63), (0, 0, 0, 1), (1, 63, 0, 63 * 63)]
+    {
+        let told = Told::Difference(difference, divisor);
+        expect(run, &mut desk, &mut book, &Call::Difference(a, b), Ok(told), seen);
+    }
+    expect(run, &mut desk, &mut book, &Call::Depot(0), Ok(Told::Figures(litres, 1)), seen);
+    expect(run, &mut desk, &mut book, &Call::Depot(63), Ok(Told::Figures(63, 63)), seen);
 }

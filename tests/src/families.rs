@@ -1,18 +1,30 @@
 //! Families of lists, from small to the largest (512 sites, 64 depots).
 
-use crate::records::{site, Site};
+use crate::records::{site, Edition, Site, ONE};
 use crate::rng::Rng;
 
-/// How large a list is to be. Litres run from 1 to `litres`.
+/// How large a list is to be. Litres run from 1 to `litres`; some families have up to the edition's most.
 #[derive(Clone, Copy)]
 pub struct Extent {
+    pub edition: Edition,
     pub sites: usize,
     pub depots: usize,
-    pub litres: u16,
+    pub litres: u32,
 }
 
 /// The largest lists, with small litres.
-pub const LARGEST: Extent = Extent { sites: 512, depots: 64, litres: 100 };
+pub const LARGEST: Extent = Extent { edition: ONE, sites: 512, depots: 64, litres: 100 };
+
+/// A list of so many sites and depots, with litres of any size that the edition has.
+pub fn extent(rng: &mut Rng, edition: Edition, sites: usize, depots: usize) -> Extent {
+    let litres = match rng.below(6) {
+        0 => edition.most(),
+        // in fewer bits the least of these are 0 and 1
+        1 if edition != ONE => *rng.pick(&[65_536, 65_537]),
+        _ => *rng.pick(&[1, 2, 3, 10, 100]),
+    };
+    Extent { edition, sites, depots, litres }
+}
 
 type Family = fn(&mut Rng, Extent) -> Vec<Site>;
 
@@ -33,8 +45,13 @@ pub const FAMILIES: [(&str, Family); 14] = [
     ("barbell", barbell),
 ];
 
-fn some_litres(rng: &mut Rng, e: Extent) -> u16 {
-    rng.from_to(1, usize::from(e.litres)) as u16
+fn some_litres(rng: &mut Rng, e: Extent) -> u32 {
+    rng.from_to(1, e.litres as usize) as u32
+}
+
+/// Litres that may be more than the edition has.
+fn at_most(e: Extent, litres: u64) -> u32 {
+    litres.min(u64::from(e.edition.most())) as u32
 }
 
 /// A site for each number below e.sites.
@@ -52,7 +69,7 @@ pub fn random(rng: &mut Rng, e: Extent) -> Vec<Site> {
 }
 
 fn large_litres(rng: &mut Rng, e: Extent) -> Vec<Site> {
-    random(rng, Extent { litres: u16::MAX, ..e })
+    random(rng, Extent { litres: e.edition.most(), ..e })
 }
 
 /// Clusters of eight depots, nine sites in ten within one, and each cluster of another weight.
@@ -62,8 +79,8 @@ fn clustered(rng: &mut Rng, e: Extent) -> Vec<Site> {
         let base = first / 8 * 8;
         let width = (e.depots - base).min(8);
         let second = if rng.percent(90) { base + rng.below(width) } else { rng.below(e.depots) };
-        let litres = usize::from(some_litres(rng, e)) * (1 + base / 8);
-        site(first as u8, second as u8, litres.min(65_535) as u16)
+        let litres = u64::from(some_litres(rng, e)) * (1 + base as u64 / 8);
+        site(first as u8, second as u8, at_most(e, litres))
     })
 }
 
@@ -107,16 +124,16 @@ fn one_each(rng: &mut Rng, e: Extent) -> Vec<Site> {
     each(e, |i| {
         let d = i % e.depots;
         if i < e.depots {
-            site(d as u8, d as u8, (1000 * (64 - d)) as u16)
+            site(d as u8, d as u8, e.edition.most() / 65_535 * 1000 * (64 - d as u32))
         } else {
-            site(d as u8, rng.below(e.depots) as u8, rng.from_to(1, 9) as u16)
+            site(d as u8, rng.below(e.depots) as u8, rng.from_to(1, 9) as u32)
         }
     })
 }
 
 /// Own sites of the most litres.
 fn own_equal(_: &mut Rng, e: Extent) -> Vec<Site> {
-    each(e, |i| site((i % e.depots) as u8, (i % e.depots) as u8, 65_535))
+    each(e, |i| site((i % e.depots) as u8, (i % e.depots) as u8, e.edition.most()))
 }
 
 /// A dense quarter of heavy sites, and the rest hanging on it by light ones.
@@ -148,7 +165,7 @@ fn band(rng: &mut Rng, e: Extent) -> Vec<Site> {
     each(e, |i| {
         let d = i % e.depots;
         let second = (d + 1 + rng.below(3)).min(e.depots - 1);
-        site(d as u8, second as u8, (1 + usize::from(e.litres) * (e.depots - d) / e.depots).min(65_535) as u16)
+        site(d as u8, second as u8, at_most(e, 1 + u64::from(e.litres) * (e.depots - d) as u64 / e.depots as u64))
     })
 }
 

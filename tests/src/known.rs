@@ -1,15 +1,16 @@
-//! The lists of document 01 with known plans, and its examples of refusals.
+//! The lists of document 01 with known plans, and its examples of refusals, in either edition; and lists that need
+//! edition 2.
 
-use crate::records::{list_bytes, plan_bytes, site, Plan, Site};
+use crate::records::{list_bytes, plan_bytes, site, Edition, Plan, Site, ONE, TWO};
 
 /// A list, its groups, and shares that pass where the document gives them.
 pub struct Known {
     pub sites: Vec<Site>,
     pub groups: Vec<u64>,
-    pub shares: Option<Vec<u32>>,
+    pub shares: Option<Vec<u64>>,
 }
 
-fn known(sites: &[(u8, u8, u16)], groups: &[u64], shares: &[u32]) -> Known {
+fn known(sites: &[(u8, u8, u32)], groups: &[u64], shares: &[u64]) -> Known {
     Known {
         sites: sites.iter().map(|&(a, b, w)| site(a, b, w)).collect(),
         groups: groups.to_vec(),
@@ -18,13 +19,38 @@ fn known(sites: &[(u8, u8, u16)], groups: &[u64], shares: &[u32]) -> Known {
 }
 
 /// T is the list of one site (0,1) of 10.
-pub const T: [u8; 10] = [0x4C, 0x53, 0x01, 0x00, 0x53, 0x54, 0x00, 0x01, 0x0A, 0x00];
-pub const T_PLAN: [u8; 21] =
+const T1: [u8; 10] = [0x4C, 0x53, 0x01, 0x00, 0x53, 0x54, 0x00, 0x01, 0x0A, 0x00];
+const T1_PLAN: [u8; 21] =
     [0x50, 0x4C, 0x01, 0x01, 0x00, 0x47, 0x52, 0x03, 0, 0, 0, 0, 0, 0, 0, 0x53, 0x48, 0x0A, 0x00, 0x00, 0x00];
 
-/// "Lists with known plans".
-pub fn lists() -> Vec<Known> {
-    let nine = [(0, 1), (0, 2), (0, 3), (1, 2), (1, 3), (2, 3), (0, 4), (1, 4), (4, 5)];
+/// The same in edition 2.
+const T2: [u8; 12] = [0x4C, 0x32, 0x01, 0x00, 0x53, 0x32, 0x00, 0x01, 0x0A, 0x00, 0x00, 0x00];
+const T2_PLAN: [u8; 25] = [
+    0x50, 0x32, 0x01, 0x01, 0x00, 0x47, 0x52, 0x03, 0, 0, 0, 0, 0, 0, 0, 0x53, 0x33, 0x0A, 0x00, 0x00, 0x00, 0, 0, 0, 0,
+];
+
+/// T and its plan.
+pub fn t(e: Edition) -> (Vec<u8>, Vec<u8>) {
+    if e == ONE {
+        (T1.to_vec(), T1_PLAN.to_vec())
+    } else {
+        (T2.to_vec(), T2_PLAN.to_vec())
+    }
+}
+
+/// The nine sites of document 01 whose innermost core is not the heaviest group.
+fn nine() -> Vec<Site> {
+    let pairs = [(0, 1), (0, 2), (0, 3), (1, 2), (1, 3), (2, 3), (0, 4), (1, 4), (4, 5)];
+    pairs.iter().map(|&(a, b)| site(a, b, 1)).collect()
+}
+
+/// Site i from 0 to 511 an own site of depot i mod 64, each of the same litres.
+pub fn own_sites(litres: u32) -> Vec<Site> {
+    (0..512).map(|i| site(i as u8 % 64, i as u8 % 64, litres)).collect()
+}
+
+/// "Lists with known plans"; in edition 2 also lists with more litres than edition 1 has.
+pub fn lists(e: Edition) -> Vec<Known> {
     let mut lists = vec![
         known(&[], &[], &[]),
         known(&[(0, 1, 10)], &[3], &[10]),
@@ -37,12 +63,33 @@ pub fn lists() -> Vec<Known> {
         known(&[(0, 1, 9), (1, 2, 1)], &[3, 4], &[9, 0]),
         known(&[(0, 1, 1), (1, 2, 1), (0, 2, 1)], &[7], &[3, 3, 0]),
     ];
-    lists.push(Known { sites: nine.iter().map(|&(a, b)| site(a, b, 1)).collect(), groups: vec![31, 32], shares: None });
-    lists.push(Known {
-        sites: (0..512).map(|i| site(i as u8 % 64, i as u8 % 64, 65_535)).collect(),
-        groups: vec![u64::MAX],
-        shares: Some(vec![4_194_240; 512]),
-    });
+    lists.push(Known { sites: nine(), groups: vec![31, 32], shares: None });
+    lists.push(Known { sites: own_sites(65_535), groups: vec![u64::MAX], shares: Some(vec![4_194_240; 512]) });
+    if e == TWO {
+        lists.extend([
+            known(&[(0, 1, 70_000)], &[3], &[70_000]),
+            // 65,536 and 65,537 are 0 and 1 in 16 bits
+            known(&[(0, 0, 65_536)], &[1], &[65_536]),
+            known(&[(0, 0, 65_535), (1, 1, 65_536)], &[2, 1], &[65_535, 65_536]),
+            known(&[(0, 0, 2), (1, 1, 65_537)], &[2, 1], &[2, 65_537]),
+            known(&[(0, 0, 65_537), (0, 1, 65_536)], &[1, 2], &[65_537, 0]),
+            known(&[(0, 0, 65_536), (0, 1, 65_536)], &[3], &[131_072, 0]),
+            known(&[(0, 0, 65_535), (0, 1, 65_536)], &[3], &[131_070, 1]),
+            // the most litres: W and w x q have more than 32 bits
+            known(&[(63, 63, 4_294_967_295)], &[1 << 63], &[4_294_967_295]),
+            known(&[(0, 1, 4_294_967_295)], &[3], &[4_294_967_295]),
+            known(&[(0, 0, 4_294_967_295), (1, 1, 4_294_967_294)], &[1, 2], &[4_294_967_295, 4_294_967_294]),
+            known(&[(0, 0, 4_294_967_295), (0, 1, 4_294_967_295)], &[3], &[8_589_934_590, 0]),
+            known(&[(0, 0, 4_294_967_294), (0, 1, 4_294_967_295)], &[3], &[8_589_934_588, 1]),
+            Known { sites: own_sites(4_294_967_295), groups: vec![u64::MAX], shares: Some(vec![274_877_906_880; 512]) },
+            // one depot with all that a list can have: W 2,199,023,255,040
+            Known {
+                sites: vec![site(5, 5, 4_294_967_295); 512],
+                groups: vec![32],
+                shares: Some(vec![4_294_967_295; 512]),
+            },
+        ]);
+    }
     lists
 }
 
@@ -52,34 +99,44 @@ fn changed(bytes: &[u8], place: usize, with: &[u8]) -> Vec<u8> {
     changed
 }
 
-fn plan(groups: &[u64], shares: &[u32]) -> Vec<u8> {
-    plan_bytes(&Plan { groups: groups.to_vec(), shares: shares.to_vec() })
-}
-
 /// The examples of rows 1 to 16: row, list, plan.
-pub fn refusals() -> Vec<(u8, Vec<u8>, Vec<u8>)> {
-    let (t, p) = (T.to_vec(), T_PLAN.to_vec());
+pub fn refusals(e: Edition) -> Vec<(u8, Vec<u8>, Vec<u8>)> {
+    let (t, p) = self::t(e);
+    let (_, of_other) = self::t(e.other());
+    let head = |mark: [u8; 2], rest: &[u8]| [&mark[..], rest].concat();
+    let plan =
+        |groups: &[u64], shares: &[u64]| plan_bytes(e, &Plan { groups: groups.to_vec(), shares: shares.to_vec() });
     vec![
         (1, vec![], p.clone()),
-        (2, vec![0x4C, 0x53, 0x01, 0x02], p.clone()),
-        (3, vec![0x4C, 0x53, 0x00, 0x02], p.clone()),
-        (3, t[..9].to_vec(), p.clone()),
-        (4, changed(&T, 5, &[0x55]), p.clone()),
-        (5, changed(&T, 7, &[0x40]), p.clone()),
-        (6, changed(&T, 8, &[0x00]), p.clone()),
-        (7, t.clone(), vec![0x50, 0x4D, 0x01, 0x01, 0x00]),
+        (1, changed(&t, 0, &[0x4C, 0x33]), p.clone()),
+        (1, changed(&t, 0, &[0x4C, 0x31]), p.clone()),
+        (1, t[..3].to_vec(), p.clone()),
+        (2, head(e.list, &[0x01, 0x02]), p.clone()),
+        (3, head(e.list, &[0x00, 0x02]), p.clone()),
+        (3, t[..t.len() - 1].to_vec(), p.clone()),
+        // the other edition's head on these records
+        (3, changed(&t, 0, &e.other().list), p.clone()),
+        (4, changed(&t, 5, &[0x55]), p.clone()),
+        (4, changed(&t, 4, &e.other().site), p.clone()),
+        (5, changed(&t, 7, &[0x40]), p.clone()),
+        (6, changed(&t, 8, &[0x00]), p.clone()),
+        (7, t.clone(), head([0x50, 0x4D], &[0x01, 0x01, 0x00])),
         (7, t.clone(), vec![]),
-        (8, t.clone(), vec![0x50, 0x4C, 0x41, 0x01, 0x00]),
-        (9, t.clone(), vec![0x50, 0x4C, 0x01, 0x02, 0x00]),
+        // "each edition of plan passes only with its own edition of list, and row 7 refuses the other"
+        (7, t.clone(), of_other),
+        (7, t.clone(), changed(&p, 0, &e.other().plan)),
+        (8, t.clone(), head(e.plan, &[0x41, 0x01, 0x00])),
+        (9, t.clone(), head(e.plan, &[0x01, 0x02, 0x00])),
         (10, t.clone(), [p.clone(), vec![0]].concat()),
-        (11, t.clone(), changed(&T_PLAN, 16, &[0x47])),
+        (11, t.clone(), changed(&p, 16, &[0x47])),
+        (11, t.clone(), changed(&p, 15, &e.other().share)),
         (12, t.clone(), plan(&[1, 3], &[10])),
         (13, t.clone(), plan(&[1], &[10])),
         (14, t.clone(), plan(&[3], &[21])),
         (15, t.clone(), plan(&[3], &[11])),
-        (16, list_bytes(&[site(0, 0, 4), site(1, 1, 4)]), plan(&[1, 2], &[4, 4])),
+        (16, list_bytes(e, &[site(0, 0, 4), site(1, 1, 4)]), plan(&[1, 2], &[4, 4])),
         // the innermost core {0,1,2,3} of the nine sites first: level, 6/4 and then 2/1
-        (16, list_bytes(&lists()[10].sites), plan(&[15, 16, 32], &[4, 2, 0, 4, 2, 4, 0, 0, 0])),
+        (16, list_bytes(e, &nine()), plan(&[15, 16, 32], &[4, 2, 0, 4, 2, 4, 0, 0, 0])),
         (0, t, p),
     ]
 }

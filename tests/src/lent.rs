@@ -2,7 +2,8 @@
 
 use sulgheti::ffi;
 
-use crate::book::Call;
+use crate::book::{Call, Litres};
+use crate::records::{Edition, ONE};
 use crate::rng::Rng;
 
 pub struct Lent {
@@ -76,9 +77,17 @@ pub fn desk(call: &Call, store: &mut Lent, table: &mut Lent, given: &Lent, buffe
     r.code = unsafe {
         match *call {
             Call::Load(_) => ffi::sulgheti_load(store.at_mut(), n, table.at_mut(), m, given.at(), given.len),
-            Call::Change(site, litres) => ffi::sulgheti_change(store.at_mut(), n, table.at_mut(), m, site, litres),
-            Call::Add(first, second, litres) => {
+            Call::Change(site, Litres::Bits16(litres)) => {
+                ffi::sulgheti_change(store.at_mut(), n, table.at_mut(), m, site, litres)
+            }
+            Call::Change(site, Litres::Bits32(litres)) => {
+                ffi::sulgheti_change2(store.at_mut(), n, table.at_mut(), m, site, litres)
+            }
+            Call::Add(first, second, Litres::Bits16(litres)) => {
                 ffi::sulgheti_add(store.at_mut(), n, table.at_mut(), m, first, second, litres)
+            }
+            Call::Add(first, second, Litres::Bits32(litres)) => {
+                ffi::sulgheti_add2(store.at_mut(), n, table.at_mut(), m, first, second, litres)
             }
             Call::Propose(_) => ffi::sulgheti_propose(store.at_mut(), n, table.at(), m, given.at(), given.len),
             Call::Written(_) => ffi::sulgheti_written(store.at(), n, table.at(), m, buffer.at_mut(), buffer.len),
@@ -94,7 +103,14 @@ pub fn desk(call: &Call, store: &mut Lent, table: &mut Lent, given: &Lent, buffe
     r
 }
 
-pub fn fresh(store: &mut Lent) -> i64 {
+/// A fresh store by the function of an edition.
+pub fn fresh(e: Edition, store: &mut Lent) -> i64 {
     // SAFETY: the store is valid for its length.
-    unsafe { ffi::sulgheti_fresh(store.at_mut(), store.len) }
+    unsafe {
+        if e == ONE {
+            ffi::sulgheti_fresh(store.at_mut(), store.len)
+        } else {
+            ffi::sulgheti_fresh2(store.at_mut(), store.len)
+        }
+    }
 }

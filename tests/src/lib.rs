@@ -1,6 +1,6 @@
-//! The engine beside an independent implementation of document 01.
+//! The engine beside an independent implementation of document 01, and of document 02's requests a to c.
 //!
-//! - `reference`: the reader and the rows, literally;
+//! - `records`, `reference`: the records of either edition, the reader and the rows, literally;
 //! - `decompose` over `flow`: the groups by minimum cuts and by a count over all sets, shares by a flow;
 //! - `families`, `known`: lists; `damage`, `near`: what is done to them and to their plans;
 //! - `lent`, `run`: calls with guard bytes, and the comparison;

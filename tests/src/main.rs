@@ -4,21 +4,22 @@
 //!
 //! First what is fixed: document 01's lists and examples, every byte of small inputs changed, all small
 //! networks with all plans, the largest lists, every pair of rows. Then random cases, N in all, and desk calls, a
-//! quarter as many and at least 60,000.
+//! quarter as many and at least 60,000. Each is done in both editions, or its cases are shared between them.
 
 use std::time::Instant;
 
 use engine_tests::damage::{reordered, spoil, Base};
 use engine_tests::decompose::shares;
 use engine_tests::desk;
-use engine_tests::families::{random, scattered, union, Extent, FAMILIES, LARGEST};
+use engine_tests::families::{extent, random, scattered, union, Extent, FAMILIES, LARGEST};
 use engine_tests::known;
 use engine_tests::near::{miss, next_season};
-use engine_tests::records::{list_bytes, listed, plan_bytes, site, Plan, Site};
+use engine_tests::records::{list_bytes, listed, plan_bytes, site, Edition, Plan, Site, EDITIONS, ONE, TWO};
+use engine_tests::reference::read_plan;
 use engine_tests::run::Run;
 
-/// The longest plan, in bytes.
-const ROOM: usize = sulgheti::PLAN_MAX;
+/// The longest plan of either edition, in bytes.
+const ROOM: usize = sulgheti::PLAN2_MAX;
 
 fn main() {
     let (mut cases, mut seed) = (200_000, 20_260_101);
@@ -54,72 +55,108 @@ fn main() {
             random_list(run);
         }
     });
-    let mut seen = [[0; 23]; 10];
+    let mut seen = desk::NONE;
     part("desk", &mut run, &mut |run| seen = desk::histories(run, 60_000.max(cases / 4)));
-    for (kind, row) in desk::missing(&seen) {
-        run.fail(&format!("desk call {kind} never answered row {row} (21: success, 22: no store)"), &[]);
+    for (edition, kind, row) in desk::missing(&seen) {
+        let what = format!("edition {edition}, desk call {kind} never answered row {row} (21: success, 22: no store)");
+        run.fail(&what, &[]);
     }
 
-    let rows: Vec<String> =
-        run.checks.iter().enumerate().filter(|(_, &n)| n > 0).map(|(r, n)| format!("{r}:{n}")).collect();
-    println!("check, cases by row (0 passes): {}", rows.join(" "));
-    let rows: Vec<String> =
-        run.makes.iter().enumerate().filter(|(_, &n)| n > 0).map(|(r, n)| format!("{r}:{n}")).collect();
-    println!("make, cases by row (0 makes): {}", rows.join(" "));
-    let rows: Vec<String> =
-        (0..23).map(|r| format!("{r}:{}", seen.iter().map(|calls| calls[r]).sum::<usize>())).collect();
-    println!("desk, calls by row (21: success, 22: no store): {}", rows.join(" "));
-    println!("{} lists counted over all sets; {} plans judged by the definition", run.counted, run.judged);
-    if (0..=16).any(|r| run.checks[r] == 0) || [0, 1, 2, 3, 4, 5, 6, 20].iter().any(|&r: &usize| run.makes[r] == 0) {
-        run.fail("a row was never answered", &[]);
+    for e in EDITIONS {
+        let n = e.number - 1;
+        let (checks, makes) = (run.checks[n], run.makes[n]);
+        println!("edition {}, check, cases by row (0 passes): {}", e.number, by_row(&checks));
+        println!("edition {}, make, cases by row (0 makes): {}", e.number, by_row(&makes));
+        let calls: [usize; 23] = std::array::from_fn(|r| seen[n].iter().map(|calls| calls[r]).sum());
+        println!("edition {}, desk, calls by row (21: success, 22: no store): {}", e.number, by_row(&calls));
+        if (0..=16).any(|r| checks[r] == 0) || [0, 1, 2, 3, 4, 5, 6, 20].iter().any(|&r: &usize| makes[r] == 0) {
+            run.fail(&format!("edition {}: a row was never answered", e.number), &[]);
+        }
     }
+    println!("{} lists counted over all sets; {} plans judged by the definition", run.counted, run.judged);
     println!("{} cases, {} failed, {:.0} s", run.cases, run.failed, start.elapsed().as_secs_f64());
     std::process::exit(i32::from(run.failed > 0));
 }
 
-/// The lists with known plans and the examples of the table.
+/// The rows that were answered, each with how often.
+fn by_row(cases: &[usize]) -> String {
+    let rows = cases.iter().enumerate().filter(|(_, &n)| n > 0).map(|(r, n)| format!("{r}:{n}"));
+    rows.collect::<Vec<String>>().join(" ")
+}
+
+/// The lists with known plans and the examples of the table, in each edition.
 fn document(run: &mut Run) {
-    for known in known::lists() {
-        let list = list_bytes(&known.sites);
-        let groups = run.groups(&known.sites);
-        if groups != known.groups {
-            run.fail("the groups are not the document's", &[("list", &list)]);
-        }
-        let own = run.plan(&known.sites);
-        run.check(&list, &plan_bytes(&own));
-        if let Some(shares) = known.shares {
-            if run.check(&list, &plan_bytes(&Plan { groups, shares })) != 0 {
-                run.fail("the document's plan does not pass", &[("list", &list)]);
+    for e in EDITIONS {
+        for known in known::lists(e) {
+            let list = list_bytes(e, &known.sites);
+            let groups = run.groups(&known.sites);
+            if groups != known.groups {
+                run.fail("the groups are not the document's", &[("list", &list)]);
+            }
+            let own = run.plan(&known.sites);
+            run.check(&list, &plan_bytes(e, &own));
+            across(run, e, &known.sites, &own);
+            if let Some(shares) = known.shares {
+                if run.check(&list, &plan_bytes(e, &Plan { groups, shares })) != 0 {
+                    run.fail("the document's plan does not pass", &[("list", &list)]);
+                }
+            }
+            if let Some(plan) = run.make(&list, &[], ROOM) {
+                run.check(&list, &plan);
             }
         }
-        if let Some(plan) = run.make(&list, &[], ROOM) {
-            run.check(&list, &plan);
+        for (row, list, plan) in known::refusals(e) {
+            if run.check(&list, &plan) != row {
+                let what = format!("the example of row {row} is answered otherwise");
+                run.fail(&what, &[("list", &list), ("plan", &plan)]);
+            }
+            run.make(&list, &[], 25);
+        }
+        let (t, plan) = known::t(e);
+        run.make(&t, &[], plan.len() - 1);
+        if run.make(&t, &[], plan.len()) != Some(plan) {
+            run.fail("make on T is not T's plan", &[]);
         }
     }
-    for (row, list, plan) in known::refusals() {
-        if run.check(&list, &plan) != row {
-            run.fail(&format!("the example of row {row} is answered otherwise"), &[("list", &list), ("plan", &plan)]);
-        }
-        run.make(&list, &[], 21);
+}
+
+/// A list of an edition with the other edition's plan, and with its head alone, on the list and on the plan; and with
+/// heads of neither edition.
+fn across(run: &mut Run, e: Edition, sites: &[Site], plan: &Plan) {
+    let (list, bytes) = (list_bytes(e, sites), plan_bytes(e, plan));
+    if run.check(&list, &plan_bytes(e.other(), plan)) != 7 {
+        run.fail("the other edition's plan is not refused by row 7", &[("list", &list)]);
     }
-    run.make(&known::T, &[], 20);
-    if run.make(&known::T, &[], 21).as_deref() != Some(&known::T_PLAN) {
-        run.fail("make on T is not T's plan", &[]);
+    let headed = |bytes: &[u8], mark: [u8; 2]| [&mark[..], &bytes[2..]].concat();
+    if run.check(&list, &headed(&bytes, e.other().plan)) != 7 {
+        run.fail("the other edition's head of a plan is not refused by row 7", &[("list", &list)]);
     }
+    // without sites, the other edition's list: then row 7
+    let other = headed(&list, e.other().list);
+    if run.check(&other, &bytes) != if sites.is_empty() { 7 } else { 3 } {
+        run.fail("the other edition's head of a list is answered otherwise", &[("list", &other)]);
+    }
+    run.make(&other, &[], bytes.len());
+    let third = headed(&list, *run.rng.pick(&[*b"L3", *b"L1", *b"LT", *b"M2", *b"2L", *b"P2", *b"S2"]));
+    if run.check(&third, &bytes) != 1 {
+        run.fail("a head of neither edition is not refused by row 1", &[("list", &third)]);
+    }
+    run.make(&third, &[], bytes.len());
 }
 
 /// Every byte of small lists and plans changed in nine ways, every prefix, and bytes added.
 fn every_byte(run: &mut Run) {
-    let small: Vec<Vec<Site>> = known::lists().into_iter().map(|k| k.sites).filter(|s| s.len() < 20).collect();
-    for sites in small {
-        let (list, plan) = (list_bytes(&sites), plan_bytes(&run.plan(&sites)));
-        change_each(run, &list, &plan);
-    }
-    for _ in 0..20 {
-        let e = Extent { sites: run.rng.from_to(1, 8), depots: run.rng.from_to(1, 6), litres: 9 };
-        let sites = random(&mut run.rng, e);
-        let (list, plan) = (list_bytes(&sites), plan_bytes(&run.plan(&sites)));
-        change_each(run, &list, &plan);
+    for e in EDITIONS {
+        let lists = known::lists(e).into_iter().map(|k| k.sites);
+        let mut small: Vec<Vec<Site>> = lists.filter(|s| s.len() < 20).collect();
+        for _ in 0..10 {
+            let (sites, depots) = (run.rng.from_to(1, 8), run.rng.from_to(1, 6));
+            small.push(random(&mut run.rng, Extent { edition: e, sites, depots, litres: 9 }));
+        }
+        for sites in small {
+            let (list, plan) = (list_bytes(e, &sites), plan_bytes(e, &run.plan(&sites)));
+            change_each(run, &list, &plan);
+        }
     }
 }
 
@@ -153,8 +190,8 @@ fn change_each(run: &mut Run, list: &[u8], plan: &[u8]) {
     }
 }
 
-/// All lists of at most two sites on three depots with litres 1 and 2, each with all orders of all
-/// groupings and all shares from 0 to one too many.
+/// All lists of at most two sites on three depots with litres 1 and 2, in each edition, each with all orders
+/// of all groupings and all shares from 0 to one too many.
 fn all_small(run: &mut Run) {
     let mut choices = Vec::new();
     for first in 0..3 {
@@ -165,19 +202,19 @@ fn all_small(run: &mut Run) {
     let mut lists: Vec<Vec<Site>> = vec![vec![]];
     lists.extend(choices.iter().map(|&a| vec![a]));
     lists.extend(choices.iter().flat_map(|&a| choices.iter().map(move |&b| vec![a, b])));
-    for sites in lists {
-        let list = list_bytes(&sites);
-        run.groups(&sites);
+    for (sites, e) in lists.iter().flat_map(|sites| EDITIONS.map(|e| (sites, e))) {
+        let list = list_bytes(e, sites);
+        run.groups(sites);
         run.make(&list, &[], ROOM);
         let mut passed = 0;
-        for groups in orders(listed(&sites)) {
-            let most = groups.iter().map(|g| g.count_ones()).max().unwrap_or(0);
+        for groups in orders(listed(sites)) {
+            let most = groups.iter().map(|g| u64::from(g.count_ones())).max().unwrap_or(0);
             let mut shares = vec![0; sites.len()];
             loop {
                 let plan = Plan { groups: groups.clone(), shares: shares.clone() };
-                passed += usize::from(run.check(&list, &plan_bytes(&plan)) == 0);
+                passed += usize::from(run.check(&list, &plan_bytes(e, &plan)) == 0);
                 // the next choice of shares
-                let Some(i) = (0..sites.len()).find(|&i| shares[i] <= most * u32::from(sites[i].litres)) else {
+                let Some(i) = (0..sites.len()).find(|&i| shares[i] <= most * u64::from(sites[i].litres)) else {
                     break;
                 };
                 shares[i] += 1;
@@ -190,7 +227,7 @@ fn all_small(run: &mut Run) {
     }
 }
 
-/// Make on all lists of three sites on four depots with litres 1 and 2.
+/// Make on all lists of three sites on four depots with litres 1 and 2, in each edition.
 fn all_lists(run: &mut Run) {
     let mut choices = Vec::new();
     for first in 0..4 {
@@ -201,7 +238,9 @@ fn all_lists(run: &mut Run) {
     for &a in &choices {
         for &b in &choices {
             for &c in &choices {
-                run.make(&list_bytes(&[a, b, c]), &[], ROOM);
+                for e in EDITIONS {
+                    run.make(&list_bytes(e, &[a, b, c]), &[], e.plan_length(4, 3));
+                }
             }
         }
     }
@@ -226,9 +265,9 @@ fn orders(set: u64) -> Vec<Vec<u64>> {
 /// The largest list of each family: its plans, near misses, damage and buffers of each kind.
 fn largest(run: &mut Run) {
     for (_, family) in FAMILIES {
-        for litres in [1, 3, 100, 65_535] {
-            let sites = family(&mut run.rng, Extent { litres, ..LARGEST });
-            work_on(run, &sites, 6);
+        for (edition, litres) in [(ONE, 1), (TWO, 3), (ONE, 100), (ONE, 65_535), (TWO, 65_536), (TWO, u32::MAX)] {
+            let sites = family(&mut run.rng, Extent { edition, litres, ..LARGEST });
+            work_on(run, edition, &sites, 6);
         }
     }
 }
@@ -236,46 +275,52 @@ fn largest(run: &mut Run) {
 /// For every two rows of Check's, and rows 1 to 6 with 20 for Make: inputs to which both apply get the earlier.
 fn all_pairs(run: &mut Run) {
     let pairs: Vec<(u8, u8)> = (2..=16).flat_map(|late| (1..late).map(move |early| (early, late))).collect();
-    let mut seen = vec![0; pairs.len()];
-    for _ in 0..4_000 {
-        let base = parts(run);
-        for (n, &(early, late)) in seen.iter_mut().zip(&pairs) {
-            *n += usize::from(pair(run, &base, early, late));
+    for e in EDITIONS {
+        let mut seen = vec![0; pairs.len()];
+        for _ in 0..4_000 {
+            let base = parts(run, e);
+            for (n, &(early, late)) in seen.iter_mut().zip(&pairs) {
+                *n += usize::from(pair(run, &base, early, late));
+            }
+            if seen.iter().all(|&n| n >= 12) {
+                break;
+            }
         }
-        if seen.iter().all(|&n| n >= 20) {
-            break;
-        }
-    }
-    println!("{} pairs of rows, each in at least {} inputs", pairs.len(), seen.iter().min().unwrap_or(&0));
-    for (n, (early, late)) in seen.into_iter().zip(pairs) {
-        if n == 0 {
-            run.fail(&format!("rows {early} and {late} were never in one input"), &[]);
+        let least = seen.iter().min().unwrap_or(&0);
+        println!("edition {}: {} pairs of rows, each in at least {least} inputs", e.number, pairs.len());
+        for (n, (early, late)) in seen.iter().zip(&pairs) {
+            if *n == 0 {
+                run.fail(&format!("edition {}: rows {early} and {late} were never in one input", e.number), &[]);
+            }
         }
     }
 }
 
 /// A list in two parts with no site between them, in a random order of its sites, and its true plan.
-fn parts(run: &mut Run) -> Base {
+fn parts(run: &mut Run, edition: Edition) -> Base {
     let part = |run: &mut Run| {
-        let e = Extent { sites: run.rng.from_to(1, 6), depots: run.rng.from_to(1, 4), litres: 20 };
+        let litres = *run.rng.pick(&[20, 20, edition.most()]);
+        let e = Extent { edition, sites: run.rng.from_to(1, 6), depots: run.rng.from_to(1, 4), litres };
         let family = run.rng.pick(&FAMILIES).1;
         family(&mut run.rng, e)
     };
     let both = union(&part(run), 4, &part(run));
     let sites = scattered(&mut run.rng, &both);
     let plan = run.plan(&sites);
-    Base { sites, plan }
+    Base { edition, sites, plan }
 }
 
 /// Damage for a later row and then for an earlier one. False where the base does not allow both.
 fn pair(run: &mut Run, base: &Base, early: u8, late: u8) -> bool {
-    let mut list = list_bytes(&base.sites);
+    let e = base.edition;
+    let mut list = list_bytes(e, &base.sites);
     let reordered = if late == 16 { reordered(&mut run.rng, base) } else { None };
     if late == 16 && reordered.is_none() {
         return false;
     }
-    let base = &Base { sites: base.sites.clone(), plan: reordered.unwrap_or_else(|| base.plan.clone()) };
-    let mut plan = plan_bytes(&base.plan);
+    let plan = reordered.unwrap_or_else(|| base.plan.clone());
+    let base = &Base { edition: e, sites: base.sites.clone(), plan };
+    let mut plan = plan_bytes(e, &base.plan);
     if late != 16 && !spoil(&mut run.rng, late, base, &mut list, &mut plan) {
         return false;
     }
@@ -294,16 +339,16 @@ fn pair(run: &mut Run, base: &Base, early: u8, late: u8) -> bool {
     true
 }
 
-/// A random list, mostly small, with its cases.
+/// A random list of either edition, mostly small, with its cases.
 fn random_list(run: &mut Run) {
+    let edition = *run.rng.pick(&EDITIONS);
     let (sites, depots) = match run.rng.below(1000) {
         0..=699 => (run.rng.from_to(0, 8), run.rng.from_to(1, 6)),
         700..=949 => (run.rng.from_to(0, 30), run.rng.from_to(1, 10)),
         950..=994 => (run.rng.from_to(10, 128), run.rng.from_to(8, 64)),
         _ => (512, 64),
     };
-    let litres = *run.rng.pick(&[1, 2, 3, 10, 100, 65_535]);
-    let e = Extent { sites, depots, litres };
+    let e = extent(&mut run.rng, edition, sites, depots);
     let family = run.rng.pick(&FAMILIES).1;
     let mut list = family(&mut run.rng, e);
     if depots <= 32 && sites <= 100 && run.rng.percent(30) {
@@ -311,14 +356,14 @@ fn random_list(run: &mut Run) {
         list = union(&list, depots, &family(&mut run.rng, e));
     }
     let list = scattered(&mut run.rng, &list);
-    work_on(run, &list, 3);
+    work_on(run, edition, &list, 3);
 }
 
-/// The cases of one list; `times` of each kind of damage.
-fn work_on(run: &mut Run, sites: &[Site], times: usize) {
-    let list = list_bytes(sites);
+/// The cases of one list of an edition; `times` of each kind of damage.
+fn work_on(run: &mut Run, e: Edition, sites: &[Site], times: usize) {
+    let list = list_bytes(e, sites);
     let own = run.plan(sites);
-    let length = plan_bytes(&own).len();
+    let length = plan_bytes(e, &own).len();
 
     // make: just enough room, more, one byte short, much too short
     let Some(made) = run.make(&list, &[], length) else { return };
@@ -328,9 +373,10 @@ fn work_on(run: &mut Run, sites: &[Site], times: usize) {
     let less = run.rng.below(length);
     run.make(&list, &[], less);
 
-    // true plans
+    // true plans, and what is of the other edition or of neither
     run.check(&list, &made);
-    run.check(&list, &plan_bytes(&own));
+    run.check(&list, &plan_bytes(e, &own));
+    across(run, e, sites, &own);
 
     // bytes cut off, which still stand behind the record, and bytes added
     for _ in 0..times {
@@ -346,15 +392,15 @@ fn work_on(run: &mut Run, sites: &[Site], times: usize) {
     }
 
     // near misses, around make's own shares too
-    let (_, shares_made) = engine_tests::reference::read_plan(&made, sites.len()).expect("a plan of the right form");
-    let mine = Plan { groups: own.groups.clone(), shares: shares_made.iter().map(|&s| s as u32).collect() };
+    let (_, shares_made) = read_plan(e, &made, sites.len()).expect("a plan of the right form");
+    let mine = Plan { groups: own.groups.clone(), shares: shares_made };
     if !sites.is_empty() {
         for i in 0..2 * times {
-            let plan = miss(&mut run.rng, sites, if i % 2 == 0 { &own } else { &mine });
-            run.check(&list, &plan_bytes(&plan));
+            let plan = miss(&mut run.rng, e, sites, if i % 2 == 0 { &own } else { &mine });
+            run.check(&list, &plan_bytes(e, &plan));
         }
         for _ in 0..times {
-            let next = list_bytes(&next_season(&mut run.rng, sites));
+            let next = list_bytes(e, &next_season(&mut run.rng, e, sites));
             run.check(&next, &made);
         }
     }
@@ -372,7 +418,7 @@ fn work_on(run: &mut Run, sites: &[Site], times: usize) {
     }
 
     // damage for one row, and for two
-    let base = Base { sites: sites.to_vec(), plan: mine };
+    let base = Base { edition: e, sites: sites.to_vec(), plan: mine };
     for _ in 0..2 * times {
         let row = run.rng.from_to(1, 15) as u8;
         let (mut list, mut plan) = (list.clone(), made.clone());
@@ -391,9 +437,9 @@ fn work_on(run: &mut Run, sites: &[Site], times: usize) {
     // the groups in another order, with level shares
     if let Some(plan) = reordered(&mut run.rng, &base) {
         let (level, right) = shares(sites, &plan.groups);
-        run.check(&list, &plan_bytes(&plan));
+        run.check(&list, &plan_bytes(e, &plan));
         if right {
-            run.check(&list, &plan_bytes(&Plan { groups: plan.groups, shares: level }));
+            run.check(&list, &plan_bytes(e, &Plan { groups: plan.groups, shares: level }));
         }
     }
 }

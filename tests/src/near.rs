@@ -1,7 +1,7 @@
 //! Near misses: plans that have the right form and are close to a true one. Some are true.
 
 use crate::decompose::{innermost_core, shares};
-use crate::records::{listed, members, Plan, Site};
+use crate::records::{listed, members, Edition, Plan, Site};
 use crate::rng::Rng;
 
 /// The groups with shares as level as a flow can make them.
@@ -10,16 +10,16 @@ fn levelled(sites: &[Site], groups: Vec<u64>) -> Plan {
     Plan { groups, shares }
 }
 
-/// One share moved, by one or by any amount.
-fn moved(rng: &mut Rng, plan: &Plan) -> Plan {
+/// One share moved, by one or by any amount. It may be greater than what can be written, and is then cut.
+fn moved(rng: &mut Rng, e: Edition, plan: &Plan) -> Plan {
     let mut plan = plan.clone();
     let i = rng.below(plan.shares.len());
     let s = plan.shares[i];
     plan.shares[i] = match rng.below(4) {
         0 => s.wrapping_add(1),
         1 => s.wrapping_sub(1),
-        2 => s ^ 1 << rng.below(32),
-        _ => rng.from_to(0, 2 * s as usize + 1) as u32,
+        2 => s ^ 1 << rng.below(8 * (e.share_bytes - 2)),
+        _ => rng.from_to(0, 2 * s as usize + 1) as u64,
     };
     plan
 }
@@ -37,7 +37,7 @@ fn exchanged(rng: &mut Rng, sites: &[Site], plan: &Plan) -> Plan {
         })
         .collect();
     let j = if parallel.is_empty() { rng.below(n) } else { *rng.pick(&parallel) };
-    let amount = rng.from_to(0, plan.shares[i] as usize) as u32;
+    let amount = rng.from_to(0, plan.shares[i] as usize) as u64;
     plan.shares[i] -= amount;
     if sites[i].first == sites[j].first {
         plan.shares[j] = plan.shares[j].wrapping_add(amount);
@@ -98,18 +98,18 @@ fn core_first(sites: &[Site], groups: &[u64]) -> Vec<u64> {
 fn misscaled(plan: &Plan, sites: &[Site]) -> Plan {
     let mut plan = plan.clone();
     for (s, share) in sites.iter().zip(&mut plan.shares) {
-        let q = |d: u8| plan.groups.iter().find(|&g| g >> d & 1 == 1).map_or(1, |g| g.count_ones());
-        if *share == u32::from(s.litres) * q(s.second) {
-            *share = u32::from(s.litres) * q(s.first);
+        let q = |d: u8| plan.groups.iter().find(|&g| g >> d & 1 == 1).map_or(1, |g| u64::from(g.count_ones()));
+        if *share == u64::from(s.litres) * q(s.second) {
+            *share = u64::from(s.litres) * q(s.first);
         }
     }
     plan
 }
 
-/// A plan close to a true one of a list with at least one site.
-pub fn miss(rng: &mut Rng, sites: &[Site], plan: &Plan) -> Plan {
+/// A plan close to a true one of a list, of an edition, with at least one site.
+pub fn miss(rng: &mut Rng, e: Edition, sites: &[Site], plan: &Plan) -> Plan {
     match rng.below(10) {
-        0..=2 => moved(rng, plan),
+        0..=2 => moved(rng, e, plan),
         3 => exchanged(rng, sites, plan),
         4 => Plan { groups: regrouped(rng, &plan.groups), shares: plan.shares.clone() },
         5..=7 => levelled(sites, regrouped(rng, &plan.groups)),
@@ -118,19 +118,20 @@ pub fn miss(rng: &mut Rng, sites: &[Site], plan: &Plan) -> Plan {
     }
 }
 
-/// Next season's list: one site's litres changed, two sites exchanged, a site's ends exchanged or
-/// replaced. The old plan has the right form for it.
-pub fn next_season(rng: &mut Rng, sites: &[Site]) -> Vec<Site> {
+/// Next season's list, of an edition: one site's litres changed, also in one bit, two sites exchanged, a site's ends
+/// exchanged or replaced. The old plan has the right form for it.
+pub fn next_season(rng: &mut Rng, e: Edition, sites: &[Site]) -> Vec<Site> {
     let mut sites = sites.to_vec();
     let n = sites.len();
     let i = rng.below(n);
-    match rng.below(6) {
-        0 => sites[i].litres = sites[i].litres.saturating_add(1),
+    match rng.below(7) {
+        0 => sites[i].litres = sites[i].litres.saturating_add(1).min(e.most()),
         1 => sites[i].litres = (sites[i].litres - 1).max(1),
         2 => sites.swap(i, rng.below(n)),
         3 => sites[i] = Site { first: sites[i].second, second: sites[i].first, ..sites[i] },
         4 => sites[i].second = *rng.pick(&members(listed(&sites))) as u8,
-        _ => sites[i].litres = rng.from_to(1, 65_535) as u16,
+        5 => sites[i].litres = (sites[i].litres ^ 1 << rng.below(8 * (e.site_bytes - 4))).max(1),
+        _ => sites[i].litres = rng.from_to(1, e.most() as usize) as u32,
     }
     sites
 }

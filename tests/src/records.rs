@@ -1,14 +1,101 @@
-//! Lists and plans as values, and their bytes.
+//! Lists and plans as values, and their bytes in either edition.
+
+/// An edition by its records: their marks, and how long they are.
+#[derive(Clone, Copy, Debug, PartialEq, Eq)]
+pub struct Edition {
+    pub number: usize,
+    pub list: [u8; 2],
+    pub site: [u8; 2],
+    pub plan: [u8; 2],
+    pub share: [u8; 2],
+    /// The bytes of a site's record: mark, two depots, litres.
+    pub site_bytes: usize,
+    /// The bytes of a share's record: mark, s.
+    pub share_bytes: usize,
+}
+
+/// The records of document 01.
+pub const ONE: Edition = Edition {
+    number: 1,
+    list: [0x4C, 0x53],
+    site: [0x53, 0x54],
+    plan: [0x50, 0x4C],
+    share: [0x53, 0x48],
+    site_bytes: 6,
+    share_bytes: 6,
+};
+
+/// The records of document 02's request c: litres in 4 bytes, s in 8.
+pub const TWO: Edition = Edition {
+    number: 2,
+    list: [0x4C, 0x32],
+    site: [0x53, 0x32],
+    plan: [0x50, 0x32],
+    share: [0x53, 0x33],
+    site_bytes: 8,
+    share_bytes: 10,
+};
+
+pub const EDITIONS: [Edition; 2] = [ONE, TWO];
+
+impl Edition {
+    pub fn other(self) -> Edition {
+        EDITIONS[2 - self.number]
+    }
+
+    /// The most litres that a site can have.
+    pub fn most(self) -> u32 {
+        u32::MAX >> (8 * (8 - self.site_bytes))
+    }
+
+    /// The greatest s that can be written.
+    pub fn most_share(self) -> u64 {
+        u64::MAX >> (8 * (10 - self.share_bytes))
+    }
+
+    pub fn list_length(self, sites: usize) -> usize {
+        4 + self.site_bytes * sites
+    }
+
+    pub fn plan_length(self, groups: usize, sites: usize) -> usize {
+        5 + 10 * groups + self.share_bytes * sites
+    }
+
+    /// The bytes of a store: three figures and 64 sets of 8 bytes each, 512 shares.
+    pub fn store_bytes(self) -> usize {
+        self.store_share(512)
+    }
+
+    /// Where a share stands in a store.
+    pub fn store_share(self, site: usize) -> usize {
+        24 + 8 * 64 + (self.share_bytes - 2) * site
+    }
+
+    /// The bytes of a place of the table: two depots, litres.
+    pub fn place_bytes(self) -> usize {
+        self.site_bytes - 2
+    }
+
+    /// The bytes of litres.
+    pub fn litres(self, litres: u32) -> Vec<u8> {
+        litres.to_le_bytes()[..self.site_bytes - 4].to_vec()
+    }
+
+    /// The bytes of s, the low ones where it is too great.
+    pub fn s(self, s: u64) -> Vec<u8> {
+        s.to_le_bytes()[..self.share_bytes - 2].to_vec()
+    }
+}
 
 /// A site as the list has it. A damaged list may name any byte as a depot.
 #[derive(Clone, Copy, Debug, PartialEq, Eq)]
 pub struct Site {
     pub first: u8,
     pub second: u8,
-    pub litres: u16,
+    pub litres: u32,
 }
 
-pub fn site(first: u8, second: u8, litres: u16) -> Site {
+pub fn site(first: u8, second: u8, litres: u32) -> Site {
     Site { first, second, litres }
 }
 
@@ -16,33 +103,43 @@ pub fn site(first: u8, second: u8, litres: u16) -> Site {
 #[derive(Clone, Debug, PartialEq, Eq)]
 pub struct Plan {
     pub groups: Vec<u64>,
-    pub shares: Vec<u32>,
+    pub shares: Vec<u64>,
 }
 
-pub fn list_bytes(sites: &[Site]) -> Vec<u8> {
-    let mut bytes = b"LS".to_vec();
+pub fn list_bytes(e: Edition, sites: &[Site]) -> Vec<u8> {
+    let mut bytes = e.list.to_vec();
     bytes.extend((sites.len() as u16).to_le_bytes());
     for s in sites {
-        bytes.extend(b"ST");
+        bytes.extend(e.site);
         bytes.extend([s.first, s.second]);
-        bytes.extend(s.litres.to_le_bytes());
+        bytes.extend(e.litres(s.litres));
     }
     bytes
 }
 
-pub fn plan_bytes(plan: &Plan) -> Vec<u8> {
-    let mut bytes = b"PL".to_vec();
+pub fn plan_bytes(e: Edition, plan: &Plan) -> Vec<u8> {
+    let mut bytes = e.plan.to_vec();
     bytes.push(plan.groups.len() as u8);
     bytes.extend((plan.shares.len() as u16).to_le_bytes());
     for set in &plan.groups {
         bytes.extend(b"GR");
         bytes.extend(set.to_le_bytes());
     }
-    for share in &plan.shares {
-        bytes.extend(b"SH");
-        bytes.extend(share.to_le_bytes());
+    for &share in &plan.shares {
+        bytes.extend(e.share);
+        bytes.extend(e.s(share));
     }
     bytes
+}
+
+/// The plan of a list without sites.
+pub fn no_plan() -> Plan {
+    Plan { groups: vec![], shares: vec![] }
+}
+
+/// A stored number, low byte first.
+pub fn number(bytes: &[u8]) -> u64 {
+    bytes.iter().enumerate().map(|(i, &b)| u64::from(b) << (8 * i)).sum()
 }
 
 /// The depots of a set, in rising order.

@@ -1,58 +1,68 @@
-//! Document 01's rows, read and tried literally: each row over all records before the next.
+//! Document 01's rows, read and tried literally: each row over all records before the next; in either edition of
+//! document 02.
 
-use crate::records::Site;
+use crate::records::{number, Edition, Site, ONE, TWO};
 
 /// A set of depots: whether each is in it.
 pub type Depots = [bool; 64];
 
-/// The row that refuses a list, or its sites.
-pub fn read_list(list: &[u8]) -> Result<Vec<Site>, u8> {
-    read_list_into(list, 512)
+/// The edition that a list is read by: "list edition 2 begins 4C 32"; row 1 of edition 1 is about any other beginning.
+pub fn edition_of(list: &[u8]) -> Edition {
+    if list.starts_with(&[0x4C, 0x32]) {
+        TWO
+    } else {
+        ONE
+    }
+}
+
+/// The row that refuses a list of an edition, or its sites.
+pub fn read_list(e: Edition, list: &[u8]) -> Result<Vec<Site>, u8> {
+    read_list_into(e, list, 512)
 }
 
 /// The same of a list for which there are so many places.
-pub fn read_list_into(list: &[u8], places: usize) -> Result<Vec<Site>, u8> {
-    if list.len() < 4 || list[..2] != [0x4C, 0x53] {
+pub fn read_list_into(e: Edition, list: &[u8], places: usize) -> Result<Vec<Site>, u8> {
+    if list.len() < 4 || list[..2] != e.list {
         return Err(1);
     }
-    let count = usize::from(list[2]) + 256 * usize::from(list[3]);
+    let count = number(&list[2..4]) as usize;
     if count > 512 || count > places {
         return Err(2);
     }
-    if list.len() != 4 + 6 * count {
+    if list.len() != e.list_length(count) {
         return Err(3);
     }
-    let records: Vec<&[u8]> = list[4..].chunks(6).collect();
-    if records.iter().any(|r| r[..2] != [0x53, 0x54]) {
+    let records: Vec<&[u8]> = list[4..].chunks(e.site_bytes).collect();
+    if records.iter().any(|r| r[..2] != e.site) {
         return Err(4);
     }
     if records.iter().any(|r| r[2] > 63 || r[3] > 63) {
         return Err(5);
     }
-    if records.iter().any(|r| r[4..] == [0, 0]) {
+    if records.iter().any(|r| r[4..].iter().all(|&b| b == 0)) {
         return Err(6);
     }
-    Ok(records.iter().map(|r| Site { first: r[2], second: r[3], litres: u16::from_le_bytes([r[4], r[5]]) }).collect())
+    Ok(records.iter().map(|r| Site { first: r[2], second: r[3], litres: number(&r[4..]) as u32 }).collect())
 }
 
-/// The row that refuses a plan's form for a list of `sites` sites, or its groups and shares.
-pub fn read_plan(plan: &[u8], sites: usize) -> Result<(Vec<Depots>, Vec<u64>), u8> {
-    if plan.len() < 5 || plan[..2] != [0x50, 0x4C] {
+/// The row that refuses a plan's form for a list of `sites` sites, of an edition, or its groups and shares.
+pub fn read_plan(e: Edition, plan: &[u8], sites: usize) -> Result<(Vec<Depots>, Vec<u64>), u8> {
+    if plan.len() < 5 || plan[..2] != e.plan {
         return Err(7);
     }
     let groups = usize::from(plan[2]);
     if groups > 64 {
         return Err(8);
     }
-    let count = usize::from(plan[3]) + 256 * usize::from(plan[4]);
+    let count = number(&plan[3..5]) as usize;
     if count != sites {
         return Err(9);
     }
-    if plan.len() != 5 + 10 * groups + 6 * sites {
+    if plan.len() != e.plan_length(groups, sites) {
         return Err(10);
     }
     let (front, back) = plan[5..].split_at(10 * groups);
-    if front.chunks(10).any(|r| r[..2] != [0x47, 0x52]) || back.chunks(6).any(|r| r[..2] != [0x53, 0x48]) {
+    if front.chunks(10).any(|r| r[..2] != [0x47, 0x52]) || back.chunks(e.share_bytes).any(|r| r[..2] != e.share) {
         return Err(11);
     }
     let sets = front.chunks(10).map(|r| {
@@ -62,7 +72,7 @@ pub fn read_plan(plan: &[u8], sites: usize) -> Result<(Vec<Depots>, Vec<u64>), u
         }
         set
     });
-    let shares = back.chunks(6).map(|r| (0..4).map(|i| u64::from(r[2 + i]) << (8 * i)).sum());
+    let shares = back.chunks(e.share_bytes).map(|r| number(&r[2..]));
     Ok((sets.collect(), shares.collect()))
 }
 
@@ -148,13 +158,14 @@ pub fn plan_row(sites: &[Site], groups: &[Depots], shares: &[u64]) -> u8 {
     0
 }
 
-/// Check's answer: 0 where it passes, otherwise the row.
+/// Check's answer: 0 where it passes, otherwise the row. The plan is read in the list's edition.
 pub fn check(list: &[u8], plan: &[u8]) -> u8 {
-    let sites = match read_list(list) {
+    let e = edition_of(list);
+    let sites = match read_list(e, list) {
         Ok(sites) => sites,
         Err(row) => return row,
     };
-    match read_plan(plan, sites.len()) {
+    match read_plan(e, plan, sites.len()) {
         Ok((groups, shares)) => plan_row(&sites, &groups, &shares),
         Err(row) => row,
     }

@@ -2,8 +2,8 @@
 
 use crate::decompose::{by_all_sets, by_cuts, shares};
 use crate::lent::{self, Lent};
-use crate::records::{hex, list_bytes, listed, Plan, Site};
-use crate::reference;
+use crate::records::{hex, list_bytes, listed, Plan, Site, TWO};
+use crate::reference::{self, edition_of};
 use crate::rng::Rng;
 
 /// Lists of at most this many depots are decomposed by a count over all sets too.
@@ -17,15 +17,15 @@ pub struct Run {
     seed: u64,
     pub cases: usize,
     pub failed: usize,
-    /// How often each row was the answer; place 0 is a plan that passes.
-    pub checks: [usize; 21],
-    pub makes: [usize; 21],
+    /// How often each row was the answer, in each edition; place 0 is a plan that passes.
+    pub checks: [[usize; 21]; 2],
+    pub makes: [[usize; 21]; 2],
     /// How often the count over all sets agreed with the minimum cuts.
     pub counted: usize,
     /// How often the rows agreed with the definition: passes just where the plan is true.
     pub judged: usize,
     /// The list worked on, and its groups.
-    held: (Vec<u8>, Vec<u64>),
+    held: (Vec<Site>, Vec<u64>),
 }
 
 impl Run {
@@ -35,8 +35,8 @@ impl Run {
             seed,
             cases: 0,
             failed: 0,
-            checks: [0; 21],
-            makes: [0; 21],
+            checks: [[0; 21]; 2],
+            makes: [[0; 21]; 2],
             counted: 0,
             judged: 0,
             held: (Vec::new(), Vec::new()),
@@ -45,16 +45,16 @@ impl Run {
 
     /// The groups of a list by minimum cuts; on few depots the count over all sets must agree.
     pub fn groups(&mut self, sites: &[Site]) -> Vec<u64> {
-        let list = list_bytes(sites);
-        if self.held.0 != list {
+        if self.held.0 != sites {
             let groups = by_cuts(sites);
             if listed(sites).count_ones() <= FEW {
                 self.counted += 1;
                 if by_all_sets(sites) != groups {
+                    let list = list_bytes(TWO, sites);
                     self.fail("the minimum cuts and the count over all sets differ", &[("list", &list)]);
                 }
             }
-            self.held = (list, groups);
+            self.held = (sites.to_vec(), groups);
         }
         self.held.1.clone()
     }
@@ -64,7 +64,7 @@ impl Run {
         let groups = self.groups(sites);
         let (shares, level) = shares(sites, &groups);
         if !level {
-            self.fail("no level shares for the groups", &[("list", &list_bytes(sites))]);
+            self.fail("no level shares for the groups", &[("list", &list_bytes(TWO, sites))]);
         }
         Plan { groups, shares }
     }
@@ -90,7 +90,7 @@ impl Run {
     pub fn check_before(&mut self, list: &[u8], behind_list: &[u8], plan: &[u8], behind_plan: &[u8]) -> u8 {
         self.cases += 1;
         let row = reference::check(list, plan);
-        self.checks[usize::from(row)] += 1;
+        self.checks[edition_of(list).number - 1][usize::from(row)] += 1;
         let both: [(&str, &[u8]); 2] = [("list", list), ("plan", plan)];
         if row == 0 || row >= 12 {
             self.judge(list, plan, row);
@@ -113,9 +113,10 @@ impl Run {
 
     /// The rows against the definition: a plan of the right form passes just where it is true.
     fn judge(&mut self, list: &[u8], plan: &[u8], row: u8) {
-        let sites = reference::read_list(list).expect("a list that reads");
-        let (groups, shares) = reference::read_plan(plan, sites.len()).expect("a plan of the right form");
-        let held = self.held.0 == list;
+        let e = edition_of(list);
+        let sites = reference::read_list(e, list).expect("a list that reads");
+        let (groups, shares) = reference::read_plan(e, plan, sites.len()).expect("a plan of the right form");
+        let held = self.held.0 == sites;
         let decomposition = if held { self.held.1.clone() } else { by_cuts(&sites) };
         self.judged += 1;
         if reference::is_true(&sites, &decomposition, &groups, &shares) != (row == 0) {
@@ -130,11 +131,12 @@ impl Run {
         let lent_list = Lent::new(&mut self.rng, list, behind);
         let mut out = Lent::new(&mut self.rng, &content, &[]);
         let answer = lent::make(&lent_list, &mut out);
-        let expected = match reference::read_list(list) {
+        let e = edition_of(list);
+        let expected = match reference::read_list(e, list) {
             Err(row) => Err(row),
             Ok(sites) => {
                 let groups = self.groups(&sites);
-                let length = 5 + 10 * groups.len() + 6 * sites.len();
+                let length = e.plan_length(groups.len(), sites.len());
                 if room < length {
                     Err(20)
                 } else {
@@ -142,7 +144,7 @@ impl Run {
                 }
             }
         };
-        self.makes[usize::from(*expected.as_ref().err().unwrap_or(&0))] += 1;
+        self.makes[e.number - 1][usize::from(*expected.as_ref().err().unwrap_or(&0))] += 1;
         let wanted = match &expected {
             Err(row) => -i64::from(*row),
             Ok((_, _, length)) => *length as i64,
@@ -160,7 +162,7 @@ impl Run {
         let (sites, groups, length) = expected.ok()?;
         let plan = out.bytes()[..length].to_vec();
         let both: [(&str, &[u8]); 2] = [("list", list), ("plan", &plan)];
-        match reference::read_plan(&plan, sites.len()) {
+        match reference::read_plan(e, &plan, sites.len()) {
             Err(row) => self.fail(&format!("make's plan is refused by row {row}"), &both),
             Ok((sets, shares)) => {
                 if !reference::is_true(&sites, &groups, &sets, &shares) {

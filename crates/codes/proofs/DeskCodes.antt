@@ -10,7 +10,7 @@ use lib.IntN.{ℤ, pos, negℤ}
 use lib.ListN.{length}
 use Rattle.records.specs.declared.Edition.{Edition}
 use Rattle.records.specs.Bytes.{Bytes}
-use Rattle.records.specs.Format.{edition1}
+use Rattle.records.specs.Format.{edition1, edition2}
 use Rattle.store.specs.Calls.{Call, Reply, Told, wrote}
 use Rattle.store.specs.Widths.{Fitting}
 use Rattle.store.proofs.Writers.{every-writer}
@@ -18,7 +18,7 @@ use Rattle.store.specs.State.{step}
 use Rattle.lent.specs.Lent.{Lent, stateIn, isOf, Called, Freshened}
 use Rattle.lent.proofs.Contracts.{laid-reply}
 use Rattle.codes.specs.declared.Coded.{Coded}
-use Rattle.codes.specs.Codes.{rowCode, noStoreCode, doneCode, lengthCode, firstOf, secondOf, differenceOf, answerOf, Moved, Did, Figures, Differs, WroteOut, FreshCode}
+use Rattle.codes.specs.Codes.{editionIn, rowCode, noStoreCode, doneCode, lengthCode, firstOf, secondOf, differenceOf, answerOf, Moved, Did, Figures, OneFigure, Differs, WroteOut, FreshCode}
 
 -- ---- codes of rows
 
@@ -44,8 +44,19 @@ module _ {b x : Bool} (tested : b ≡ x) where
   pub no-store : not b ≡ true → x ≡ false
   no-store h = sym tested ∙ not-true b h
 
-pub asks : {e : Edition} (s : List ℕ) → e ≡ edition1 → isOf edition1 s ≡ true → Fitting e × (isOf e s ≡ true)
-asks s k long = rw k ((lit≤ tt, lit≤ tt), long)
+-- the edition of a store, by its length
+pub second-in : (s : List ℕ) → length s ≡ 4632 → edition2 ≡ editionIn s
+second-in s h = sym (ap (λ (b : Bool). cond b edition2 edition1) (eq-eqb (length s) 4632 h))
+
+pub first-in : (s : List ℕ) → (length s ≡ 4632 → ⊥) → edition1 ≡ editionIn s
+first-in s h = sym (ap (λ (b : Bool). cond b edition2 edition1) (ne-eqb (length s) 4632 h))
+
+-- the widths of either edition, which every call asks
+pub fitting1 : {e : Edition} → e ≡ edition1 → Fitting e
+fitting1 k = rw k (lit≤ tt, lit≤ tt)
+
+pub fitting2 : {e : Edition} → e ≡ edition2 → Fitting e
+fitting2 k = rw k (lit≤ tt, lit≤ tt)
 
 -- ---- bytes that have not the length of a store
 
@@ -131,3 +142,7 @@ pub length-held : {e : Edition} {s t s' t' last : List ℕ} {c : Call} {a : Told
 length-held {e} {s} {t} {c = c} x room n h =
     let answer = ap (λ (l : Lent). l .reply .answer) (x .is) ∙ ap (λ (r : Reply). r .answer) (laid-reply e s t (step (stateIn e s t) c)) in
     omega (arith, every-writer (stateIn e s t) c n (sym answer ∙ h) .4)
+
+-- a question for one figure is one for two, of which the second is not asked for
+pub one-figure : {e : Edition} {s t : List ℕ} {c : Call} {r : ℤ} {m n m' n' : ℕ} → Figures e s t c r m n m' n' → OneFigure e s t c r m m'
+one-figure f = record { code = f .code; figure = f .first; kept = f .kept }

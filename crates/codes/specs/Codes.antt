@@ -8,17 +8,23 @@ use lib.IntN.{ℤ, pos, negℤ}
 use lib.ListN.{length}
 use Rattle.records.specs.declared.Edition.{Edition}
 use Rattle.records.specs.Bytes.{Bytes}
+use Rattle.records.specs.Format.{edition1, edition2}
 use Rattle.store.specs.Calls.{Call, Told, refused, done, shared, loaded, differ, wrote, reached}
 use Rattle.store.specs.State.{bare, step}
 use Rattle.layout.specs.Layout.{storeBytes, storeIn}
 use Rattle.lent.specs.Lent.{stateIn, isOf, call}
 use Rattle.codes.specs.declared.Coded.{Coded}
 
+-- The edition of a store, told by the length of its bytes: 4,632 are a store of edition 2. Bytes of another length are taken for a store of edition 1, and are none
+-- unless they are 2,584 (`isOf`).
+abbrev pub editionIn : List ℕ → Edition
+editionIn s = cond (isOf edition2 s) edition2 edition1
+
 -- a row's number with a minus sign; row 0, which would be 0, is -256
 abbrev pub rowCode : ℕ → ℤ
 rowCode n = cond (eqb n 0) (negℤ (pos 256)) (negℤ (pos n))
 
--- What is answered where the bytes have not the length of a store: no row of the paper, so no row's number.
+-- What is answered where the bytes have not the length of a store that the function serves: no row of the paper, so no row's number.
 abbrev pub noStoreCode : ℤ
 noStoreCode = negℤ (pos 257)
 

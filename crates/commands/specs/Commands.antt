@@ -9,9 +9,9 @@ use Rattle.script.specs.Words.{wordsOf}
 use Rattle.script.specs.Ascii.{is}
 use Rattle.script.specs.declared.Number.{Number}
 use Rattle.script.specs.declared.Number.the-variants as number
-use Rattle.edition1.specs.declared.Request1.the-variants as request
+use Rattle.store.specs.declared.Request.the-variants as request
 use Rattle.commands.specs.declared.Command.{Command}
-use Rattle.commands.specs.declared.Command.the-variants.{Blank, Bad, Table, Call, Written, Check, Make, ListWritten}
+use Rattle.commands.specs.declared.Command.the-variants.{Blank, Bad, Table, Call, Written, Check, Make, ListWritten, Table2}
 
 -- the command where the word stands for bytes
 abbrev pub ofBytes : List ℕ → Command → Command
@@ -22,15 +22,15 @@ abbrev pub ofNumber : Number → (ℕ → Command) → Command
 ofNumber (number.Value n) f = f n
 ofNumber number.Bad f = Bad
 
--- a site is at most 2^64 - 1, a depot at most 255, litres are at most 65,535, a threshold (document 02's mark) is at most 4,294,967,295
+-- a site is at most 2^64 - 1, a depot at most 255, a threshold (document 02's mark) at most 4,294,967,295; litres are at most the largest of the store's edition
 abbrev pub ofSite : List ℕ → (ℕ → Command) → Command
 ofSite word f = ofNumber (numberOf 18446744073709551615 word) f
 
 abbrev pub ofDepot : List ℕ → (ℕ → Command) → Command
 ofDepot word f = ofNumber (numberOf 255 word) f
 
-abbrev pub ofLitres : List ℕ → (ℕ → Command) → Command
-ofLitres word f = ofNumber (numberOf 65535 word) f
+abbrev pub ofLitres : ℕ → List ℕ → (ℕ → Command) → Command
+ofLitres most word f = ofNumber (numberOf most word) f
 
 abbrev pub ofThreshold : List ℕ → (ℕ → Command) → Command
 ofThreshold word f = ofNumber (numberOf 4294967295 word) f
@@ -62,17 +62,19 @@ unfoldable pub oneWord : List ℕ → List ℕ → Command
 oneWord name a =
     -- table N
     cond (is name "table") (ofPlaces a (λ n. Table n))
+    -- table2 N
+    (cond (is name "table2") (ofPlaces a (λ n. Table2 n))
     -- load LIST
     (cond (is name "load") (ofBytes a (Call request.Load))
     -- propose PLAN
     (cond (is name "propose") (ofBytes a (Call request.Propose))
-    (reads name a)))
+    (reads name a))))
 
 -- a name and two words behind it
-unfoldable pub twoWords : List ℕ → List ℕ → List ℕ → Command
-twoWords name a b =
+unfoldable pub twoWords : ℕ → List ℕ → List ℕ → List ℕ → Command
+twoWords most name a b =
     -- change SITE LITRES
-    cond (is name "change") (ofSite a (λ i. ofLitres b (λ w. Call (request.Change i w))))
+    cond (is name "change") (ofSite a (λ i. ofLitres most b (λ w. Call (request.Change i w))))
     -- difference A B
     (cond (is name "difference") (ofDepot a (λ d. ofDepot b (λ e. Call (request.Difference d e))))
     -- check LIST PLAN
@@ -82,19 +84,19 @@ twoWords name a b =
     Bad)))
 
 -- a name and three words behind it
-unfoldable pub threeWords : List ℕ → List ℕ → List ℕ → List ℕ → Command
-threeWords name a b c =
+unfoldable pub threeWords : ℕ → List ℕ → List ℕ → List ℕ → List ℕ → Command
+threeWords most name a b c =
     -- add FIRST SECOND LITRES
-    cond (is name "add") (ofDepot a (λ f. ofDepot b (λ s. ofLitres c (λ w. Call (request.Add f s w)))))
+    cond (is name "add") (ofDepot a (λ f. ofDepot b (λ s. ofLitres most c (λ w. Call (request.Add f s w)))))
     Bad
 
 -- a word too many or too few is bad
-abbrev pub callOf : List ℕ → List (List ℕ) → Command
-callOf name [] = Bad
-callOf name (a ∷ []) = oneWord name a
-callOf name (a ∷ b ∷ []) = twoWords name a b
-callOf name (a ∷ b ∷ c ∷ []) = threeWords name a b c
-callOf name (a ∷ b ∷ c ∷ d ∷ more) = Bad
+abbrev pub callOf : ℕ → List ℕ → List (List ℕ) → Command
+callOf most name [] = Bad
+callOf most name (a ∷ []) = oneWord name a
+callOf most name (a ∷ b ∷ []) = twoWords most name a b
+callOf most name (a ∷ b ∷ c ∷ []) = threeWords most name a b c
+callOf most name (a ∷ b ∷ c ∷ d ∷ more) = Bad
 
 -- does the word begin with `#` (byte 35)?
 abbrev pub isComment : List ℕ → Bool
@@ -102,10 +104,10 @@ isComment [] = false
 isComment (b ∷ word) = eqb b 35
 
 -- a line without words, and one whose first word begins with `#`, is blank
-abbrev pub ofWords : List (List ℕ) → Command
-ofWords [] = Blank
-ofWords (name ∷ words) = cond (isComment name) Blank (callOf name words)
+abbrev pub ofWords : ℕ → List (List ℕ) → Command
+ofWords most [] = Blank
+ofWords most (name ∷ words) = cond (isComment name) Blank (callOf most name words)
 
--- the command of a line
-abbrev pub commandOf : List ℕ → Command
-commandOf line = ofWords (wordsOf line)
+-- the command of a line, where litres are at most `most`
+abbrev pub commandOf : ℕ → List ℕ → Command
+commandOf most line = ofWords most (wordsOf line)

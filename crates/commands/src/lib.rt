@@ -1,23 +1,25 @@
 // A line of a script turned into a command. The top of crates/console/src/main.rt says what the lines mean.
-use edition1::Request1;
 use script::Number;
+use store::Request;
 ghost use mathlib.Core.Path.{_≡_};
 ghost use mathlib.Core.List.{_∷_};
+ghost use Rattle.script.specs.Decimal.{numberOf};
 ghost use Rattle.script.specs.Words.{wordsOf};
 ghost use Rattle.commands.specs.Commands.{ofBytes, ofSite, ofDepot, ofLitres, ofThreshold, ofPlaces, ofSize, reads, oneWord, twoWords, threeWords, callOf, commandOf};
-ghost use Rattle.commands.specs.declared.Command.the-variants.{Table, Call, Written, Check, Make, ListWritten};
-ghost use Rattle.edition1.specs.declared.Request1.the-variants.{Share, Depot, Change, Difference, Add, AtLeast};
+ghost use Rattle.commands.specs.declared.Command.the-variants.{Table, Call, Written, Check, Make, ListWritten, Table2};
+ghost use Rattle.store.specs.declared.Request.the-variants.{Share, Depot, Change, Difference, Add, AtLeast};
 
 // What a line asks for. A `Call` is a call of the desk; `written` and `list`, which take a buffer, have variants of their own. Bytes are not held: they are words of the line.
 pub enum Command {
     Blank,
     Bad,
     Table(usize),
-    Call(Request1),
+    Call(Request),
     Written(usize),
     Check,
     Make(usize),
     ListWritten(usize),
+    Table2(usize),
 }
 
 // The most places of a table.
@@ -26,12 +28,10 @@ const PLACES: u64 = 600;
 // The most bytes of a buffer.
 const SIZE: u64 = 8192;
 
-// The largest numbers of a site, of a depot, of litres and of a threshold.
+// The largest numbers of a site, of a depot and of a threshold. That of litres is the edition's, and `parse` is given it.
 const SITE: u64 = u64::MAX;
 
 const DEPOT: u64 = 255;
-
-const LITRES: u64 = 65535;
 
 const THRESHOLD: u64 = 4294967295;
 
@@ -41,6 +41,16 @@ fn table(text: &[u8]) -> Command
 {
     match script::decimal(text, PLACES) {
         Number::Value(n) => Command::Table(n as usize),
+        Number::Bad => Command::Bad,
+    }
+}
+
+// table2 N
+fn table2(text: &[u8]) -> Command
+    ensures { λ r. ⌜ r ≡ ofPlaces (now (text .entry)) (λ n. Table2 n) ⌝ }
+{
+    match script::decimal(text, PLACES) {
+        Number::Value(n) => Command::Table2(n as usize),
         Number::Bad => Command::Bad,
     }
 }
@@ -61,7 +71,7 @@ fn share(text: &[u8]) -> Command
     ensures { λ r. ⌜ r ≡ ofSite (now (text .entry)) (λ i. Call (Share i)) ⌝ }
 {
     match script::decimal(text, SITE) {
-        Number::Value(i) => Command::Call(Request1::Share(i as usize)),
+        Number::Value(i) => Command::Call(Request::Share(i as usize)),
         Number::Bad => Command::Bad,
     }
 }
@@ -71,7 +81,7 @@ fn depot(text: &[u8]) -> Command
     ensures { λ r. ⌜ r ≡ ofDepot (now (text .entry)) (λ d. Call (Depot d)) ⌝ }
 {
     match script::decimal(text, DEPOT) {
-        Number::Value(d) => Command::Call(Request1::Depot(d as u8)),
+        Number::Value(d) => Command::Call(Request::Depot(d as u8)),
         Number::Bad => Command::Bad,
     }
 }
@@ -101,7 +111,7 @@ fn at_least(text: &[u8]) -> Command
     ensures { λ r. ⌜ r ≡ ofThreshold (now (text .entry)) (λ m. Call (AtLeast m)) ⌝ }
 {
     match script::decimal(text, THRESHOLD) {
-        Number::Value(m) => Command::Call(Request1::AtLeast(m as u32)),
+        Number::Value(m) => Command::Call(Request::AtLeast(m as u32)),
         Number::Bad => Command::Bad,
     }
 }
@@ -135,26 +145,36 @@ fn one_word(name: &[u8], word: &[u8]) -> Command
     if check::same(name, b"table") {
         return table(word);
     }
+    if check::same(name, b"table2") {
+        return table2(word);
+    }
     if check::same(name, b"load") {
-        return given(word, Command::Call(Request1::Load));
+        return given(word, Command::Call(Request::Load));
     }
     if check::same(name, b"propose") {
-        return given(word, Command::Call(Request1::Propose));
+        return given(word, Command::Call(Request::Propose));
     }
     reads(name, word)
 }
 
+// The litres of a site.
+fn litres_of(text: &[u8], most: u32) -> Number
+    ensures { λ r. ⌜ r ≡ numberOf most (now (text .entry)) ⌝ }
+{
+    script::decimal(text, most as u64)
+}
+
 // change SITE LITRES
-fn change(site: &[u8], litres: &[u8]) -> Command
-    ensures { λ r. ⌜ r ≡ ofSite (now (site .entry)) (λ i. ofLitres (now (litres .entry)) (λ w. Call (Change i w))) ⌝ }
+fn change(site: &[u8], litres: &[u8], most: u32) -> Command
+    ensures { λ r. ⌜ r ≡ ofSite (now (site .entry)) (λ i. ofLitres most (now (litres .entry)) (λ w. Call (Change i w))) ⌝ }
 {
     let Number::Value(i) = script::decimal(site, SITE) else {
         return Command::Bad;
     };
-    let Number::Value(w) = script::decimal(litres, LITRES) else {
+    let Number::Value(w) = litres_of(litres, most) else {
         return Command::Bad;
     };
-    Command::Call(Request1::Change(i as usize, w as u16))
+    Command::Call(Request::Change(i as usize, w as u32))
 }
 
 // difference A B
@@ -167,7 +187,7 @@ fn difference(a: &[u8], b: &[u8]) -> Command
     let Number::Value(e) = script::decimal(b, DEPOT) else {
         return Command::Bad;
     };
-    Command::Call(Request1::Difference(d as u8, e as u8))
+    Command::Call(Request::Difference(d as u8, e as u8))
 }
 
 // make LIST LEN, where LIST stands for bytes
@@ -181,11 +201,11 @@ fn make(len: &[u8]) -> Command
 }
 
 // The call of a name with two words behind it.
-fn two_words(name: &[u8], a: &[u8], b: &[u8]) -> Command
-    ensures { λ r. ⌜ r ≡ twoWords (now (name .entry)) (now (a .entry)) (now (b .entry)) ⌝ }
+fn two_words(name: &[u8], a: &[u8], b: &[u8], most: u32) -> Command
+    ensures { λ r. ⌜ r ≡ twoWords most (now (name .entry)) (now (a .entry)) (now (b .entry)) ⌝ }
 {
     if check::same(name, b"change") {
-        return change(a, b);
+        return change(a, b, most);
     }
     if check::same(name, b"difference") {
         return difference(a, b);
@@ -200,8 +220,8 @@ fn two_words(name: &[u8], a: &[u8], b: &[u8]) -> Command
 }
 
 // add FIRST SECOND LITRES
-fn add(first: &[u8], second: &[u8], litres: &[u8]) -> Command
-    ensures { λ r. ⌜ r ≡ ofDepot (now (first .entry)) (λ f. ofDepot (now (second .entry)) (λ s. ofLitres (now (litres .entry)) (λ w. Call (Add f s w)))) ⌝ }
+fn add(first: &[u8], second: &[u8], litres: &[u8], most: u32) -> Command
+    ensures { λ r. ⌜ r ≡ ofDepot (now (first .entry)) (λ f. ofDepot (now (second .entry)) (λ s. ofLitres most (now (litres .entry)) (λ w. Call (Add f s w)))) ⌝ }
 {
     let Number::Value(f) = script::decimal(first, DEPOT) else {
         return Command::Bad;
@@ -209,63 +229,63 @@ fn add(first: &[u8], second: &[u8], litres: &[u8]) -> Command
     let Number::Value(s) = script::decimal(second, DEPOT) else {
         return Command::Bad;
     };
-    let Number::Value(w) = script::decimal(litres, LITRES) else {
+    let Number::Value(w) = litres_of(litres, most) else {
         return Command::Bad;
     };
-    Command::Call(Request1::Add(f as u8, s as u8, w as u16))
+    Command::Call(Request::Add(f as u8, s as u8, w as u32))
 }
 
 // The call of a name with three words behind it.
-fn three_words(name: &[u8], a: &[u8], b: &[u8], c: &[u8]) -> Command
-    ensures { λ r. ⌜ r ≡ threeWords (now (name .entry)) (now (a .entry)) (now (b .entry)) (now (c .entry)) ⌝ }
+fn three_words(name: &[u8], a: &[u8], b: &[u8], c: &[u8], most: u32) -> Command
+    ensures { λ r. ⌜ r ≡ threeWords most (now (name .entry)) (now (a .entry)) (now (b .entry)) (now (c .entry)) ⌝ }
 {
     if check::same(name, b"add") {
-        return add(a, b, c);
+        return add(a, b, c, most);
     }
     Command::Bad
 }
 
 // The call of a name, two words, and the words of what stands behind them.
-fn third(name: &[u8], a: &[u8], b: &[u8], text: &[u8]) -> Command
-    ensures { λ r. ⌜ r ≡ callOf (now (name .entry)) (now (a .entry) ∷ now (b .entry) ∷ wordsOf (now (text .entry))) ⌝ }
+fn third(name: &[u8], a: &[u8], b: &[u8], text: &[u8], most: u32) -> Command
+    ensures { λ r. ⌜ r ≡ callOf most (now (name .entry)) (now (a .entry) ∷ now (b .entry) ∷ wordsOf (now (text .entry))) ⌝ }
 {
     let c = script::word(text);
     if c.len() == 0 {
-        return two_words(name, a, b);
+        return two_words(name, a, b, most);
     }
     let others = script::rest(text);
     let d = script::word(others);
     if d.len() == 0 {
-        return three_words(name, a, b, c);
+        return three_words(name, a, b, c, most);
     }
     Command::Bad
 }
 
 // The call of a name, one word, and the words of what stands behind it.
-fn second(name: &[u8], a: &[u8], text: &[u8]) -> Command
-    ensures { λ r. ⌜ r ≡ callOf (now (name .entry)) (now (a .entry) ∷ wordsOf (now (text .entry))) ⌝ }
+fn second(name: &[u8], a: &[u8], text: &[u8], most: u32) -> Command
+    ensures { λ r. ⌜ r ≡ callOf most (now (name .entry)) (now (a .entry) ∷ wordsOf (now (text .entry))) ⌝ }
 {
     let b = script::word(text);
     if b.len() == 0 {
         return one_word(name, a);
     }
-    third(name, a, b, script::rest(text))
+    third(name, a, b, script::rest(text), most)
 }
 
 // The call of a name and the words of what stands behind it.
-fn first(name: &[u8], text: &[u8]) -> Command
-    ensures { λ r. ⌜ r ≡ callOf (now (name .entry)) (wordsOf (now (text .entry))) ⌝ }
+fn first(name: &[u8], text: &[u8], most: u32) -> Command
+    ensures { λ r. ⌜ r ≡ callOf most (now (name .entry)) (wordsOf (now (text .entry))) ⌝ }
 {
     let a = script::word(text);
     if a.len() == 0 {
         return Command::Bad;
     }
-    second(name, a, script::rest(text))
+    second(name, a, script::rest(text), most)
 }
 
-// The command of a line.
-pub fn parse(line: &[u8]) -> Command
-    ensures { λ r. ⌜ r ≡ commandOf (now (line .entry)) ⌝ }
+// The command of a line. Litres that go to the table are at most `most`.
+pub fn parse(line: &[u8], most: u32) -> Command
+    ensures { λ r. ⌜ r ≡ commandOf most (now (line .entry)) ⌝ }
 {
     let name = script::word(line);
     if name.len() == 0 {
@@ -274,5 +294,5 @@ pub fn parse(line: &[u8]) -> Command
     if name[0] == b'#' {
         return Command::Blank;
     }
-    first(name, script::rest(line))
+    first(name, script::rest(line), most)
 }

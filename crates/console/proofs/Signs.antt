@@ -1,7 +1,7 @@
 -- The magnitude of a signed number by its cases, as `magnitude` meets them. Assumes nothing.
 use mathlib.Core.Path.{_≡_, sym, ap, subst, _∙_}
 use mathlib.Core.Bool.{true, false}
-use Prim.Native.Nat.{suc, _+_, _-_, _<_, _^_}
+use Prim.Native.Nat.{suc, _+_, _<_, _^_}
 use native.Mathlib.Omega.{arith}
 use lib.Dec.{T, ltb→lt}
 use lib.IntN.{ℤ, pos, negsuc, natAbs, _-ℤ_}

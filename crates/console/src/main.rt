@@ -3,8 +3,11 @@
 //   check LIST PLAN            `passes`, or `refused` and the row
 //   make LIST LEN              makes a plan in a buffer of LEN bytes, at most 8,192, filled with A5: `length` and the plan's length, or `refused` and the row, and then the whole buffer
 //
+// Both take either edition of list; a plan is of the list's edition.
+//
 // The desk's calls, over one desk and a table. A refused call answers `refused` and the row:
-//   table N                    a fresh desk, and a table of N places, at most 600, all zero; it answers `table` and N. Before any such line the desk is fresh and has 512 places
+//   table N                    a fresh desk of edition 1, and a table of N places, at most 600, all zero; it answers `table` and N
+//   table2 N                   the same of edition 2; it answers `table2` and N. Before the first of these lines the desk is fresh, of edition 1, and has 512 places
 //   load LIST                  `done`
 //   change SITE LITRES         `done`
 //   add FIRST SECOND LITRES    `done`
@@ -16,31 +19,38 @@
 //   written LEN                the held plan in a buffer as for `make`: `length` and its length, or `refused` and the row, and then the whole buffer
 //   list LEN                   the held list likewise, with a plan or without one
 //
-// A depot is a number up to 255, litres up to 65,535, a site up to 2^64 - 1.
+// A desk takes lists and plans of its own edition. A depot is a number up to 255, a site up to 2^64 - 1.
+// The litres of `change` and `add` are a number up to 65,535 on a desk of edition 1, and up to 4,294,967,295 on one of edition 2.
 // Bytes are hexadecimal, of either case, without spaces, `-` for none; they are printed in upper case. Numbers are decimal. Words stand apart by one or more spaces, and spaces before the first and behind the last are passed over.
 // A blank line prints nothing, nor does one whose first word begins with `#`. Any other line, and one with a word too many or too few, or with a number too large for its place, prints `bad line`.
-// A line is at most 16,384 bytes long. Of a longer one nothing is carried out, whatever it begins with: it is read to its end and prints one `bad line` there.
+// A line is at most 65,536 bytes long. Of a longer one nothing is carried out, whatever it begins with: it is read to its end and prints one `bad line` there.
 // The last line may lack its newline. An answer is printed as soon as its line is read.
 use commands::Command;
-use edition1::Request1;
-use edition1::widen_request;
 use libc::STDIN_FILENO;
 use libc::STDOUT_FILENO;
+use records::Edition;
 use records::Wrote;
 use records::edition1;
+use records::edition2;
 use store::Answer;
+use store::Request;
 use tables::Verdict;
 ghost use mathlib.Core.Path.{_≡_};
-ghost use Prim.Native.Nat.{_≤_};
+ghost use Prim.Native.Nat.{ℕ, _+_, _*_, _≤_, _^_};
 ghost use lib.IntN.{natAbs};
 ghost use Rattle.io.specs.Counts.{Counts};
-ghost use Rattle.commands.specs.Commands.{commandOf};
+ghost use Rattle.commands.specs.declared.Command.the-variants.{Make};
+ghost use Rattle.store.specs.Widths.{Named};
+ghost use Rattle.layout.specs.Layout.{storeSize};
+ghost use Rattle.console.specs.Editions.{editionAt};
 
-// The bytes of a store and of its table, and how many places the table has: 4 bytes each, at most 600.
+// The bytes of a store and of its table, of edition 2 if `second` is true and else of edition 1, and how many places the table has: at most 600.
+// In edition 2 a store has 4,632 bytes and a place 6; in edition 1 a store has the first 2,584 bytes, and a place 4.
 struct Desk {
+    second: bool,
     places: usize,
-    store: [u8; 2584],
-    table: [u8; 2400],
+    store: [u8; 4632],
+    table: [u8; 3600],
 }
 
 // What is kept between reads: whether there may be more to read, how many bytes of the next line are read, and the desk.
@@ -147,7 +157,9 @@ fn print_buffer(bytes: &[u8]) {
     end_answer();
 }
 
-// The check of a list and a plan, both in hexadecimal.
+// The check of a list and a plan, both in hexadecimal. Here and in the other calls the first 8,192 bytes of a list or of a plan are taken.
+// What is cut off changes no answer: a list has at most 4,100 bytes and a plan at most 5,765, so a longer one is refused by its head
+// (rows 1 and 2, rows 7 to 9) or by its length (rows 3 and 10), cut or not.
 fn checked(list: &[u8], plan: &[u8]) {
     let mut a = [0u8; 8192];
     let mut b = [0u8; 8192];
@@ -178,79 +190,115 @@ fn run_make(args: &[u8], len: usize)
     made_in(&bytes[..n], &mut out[..len]);
 }
 
+// The edition of a desk.
+fn edition(second: bool) -> Edition
+    ensures { λ r. ⌜ r ≡ editionAt second ⌝ }
+{
+    if second { edition2() } else { edition1() }
+}
+
+// The largest number of litres of the edition.
+fn most_litres(second: bool) -> u32
+    ensures { λ r. ⌜ r + 1 ≡ 256 ^ editionAt second .litres ⌝ }
+{
+    if second { u32::MAX } else { 65535 }
+}
+
+// The bytes of a store of the edition.
+fn store_bytes(second: bool) -> usize
+    ensures { λ r. ⌜ r ≡ storeSize (editionAt second .share) ⌝ }
+{
+    if second { 4632 } else { 2584 }
+}
+
+// The bytes of a table of so many places, at most 600; of more, which no desk has, none.
+fn table_bytes(second: bool, places: usize) -> usize
+    ensures { λ r. ⌜ r ≤ 3600 ⌝ }
+    ensures { λ r. ⌜ (places ≤ 600 → r ≡ (2 + editionAt second .litres) * places) ⌝ }
+{
+    if places > 600 {
+        return 0;
+    }
+    if second { 6 * places } else { 4 * places }
+}
+
 // A fresh desk, and a table of so many places.
-fn fresh(places: usize) -> Desk
+fn fresh(second: bool, places: usize) -> Desk
     requires { ⌜ places ≤ 600 ⌝ }
 {
-    let mut store = [0u8; 2584];
-    lent::fresh(edition1(), &mut store);
+    let mut store = [0u8; 4632];
+    let size = store_bytes(second);
+    lent::fresh(edition(second), &mut store[..size]);
     Desk {
+        second,
         places,
         store,
-        table: [0; 2400],
+        table: [0; 3600],
     }
 }
 
-// table N
-fn run_table(places: usize) -> Desk
+// table N, table2 N
+fn run_table(second: bool, places: usize) -> Desk
     requires { ⌜ places ≤ 600 ⌝ }
 {
-    print_number(b"table ", places as u64);
+    if second {
+        print_number(b"table2 ", places as u64);
+    } else {
+        print_number(b"table ", places as u64);
+    }
     end_answer();
-    fresh(places)
+    fresh(second, places)
 }
 
 // The end of a line with a call's answer: `written` and `list` print the buffer.
-fn end_call(request: Request1, buffer: &[u8]) {
+fn end_call(request: Request, buffer: &[u8]) {
     match request {
-        Request1::Written | Request1::ListWritten => print_buffer(buffer),
+        Request::Written | Request::ListWritten => print_buffer(buffer),
         _ => end_answer(),
     }
 }
 
-// The bytes of a table of so many places.
-fn table_bytes(places: usize) -> usize
-    ensures { λ r. ⌜ r ≤ 2400 ⌝ }
-{
-    if places < 600 { 4 * places } else { 2400 }
-}
-
 // A call of the desk, and its answer: the entry over lent bytes, which the library exports call by call.
-fn called(desk: Desk, request: Request1, input: &[u8], buffer: &mut [u8]) -> Desk {
+fn called(desk: Desk, request: Request, input: &[u8], buffer: &mut [u8]) -> Desk
+    requires { ⌜ Named (256 ^ editionAt (desk .second) .litres) request ⌝ }
+{
+    let second = desk.second;
+    let places = desk.places;
     let mut store = desk.store;
     let mut table = desk.table;
-    let n = table_bytes(desk.places);
-    let asked = widen_request(request);
+    let size = store_bytes(second);
+    let n = table_bytes(second, places);
     let answer = lent::call(
-        edition1(),
-        &mut store,
+        edition(second),
+        &mut store[..size],
         &mut table[..n],
-        asked,
+        request,
         input,
         buffer,
     );
     print_answer(answer);
     end_call(request, buffer);
     Desk {
-        places: desk.places,
+        second,
+        places,
         store,
         table,
     }
 }
 
 // Puts the input of a call at the front of `out`, and answers how long it is: `load` and `propose` have one, in hexadecimal.
-fn input_of(request: Request1, args: &[u8], out: &mut [u8]) -> usize
+fn input_of(request: Request, args: &[u8], out: &mut [u8]) -> usize
     ensures { λ r. ⌜ Counts r (now (out .exit)) ⌝ }
 {
     match request {
-        Request1::Load | Request1::Propose => script::decode(script::word(args), out),
+        Request::Load | Request::Propose => script::decode(script::word(args), out),
         _ => 0,
     }
 }
 
 // A call of the desk that is lent a buffer of `len` bytes.
-fn run_call(desk: Desk, request: Request1, args: &[u8], len: usize) -> Desk
-    requires { ⌜ len ≤ 8192 ⌝ }
+fn run_call(desk: Desk, request: Request, args: &[u8], len: usize) -> Desk
+    requires { ⌜ (len ≤ 8192) × Named (256 ^ editionAt (desk .second) .litres) request ⌝ }
 {
     let mut bytes = [0u8; 8192];
     let n = input_of(request, args, &mut bytes);
@@ -260,7 +308,7 @@ fn run_call(desk: Desk, request: Request1, args: &[u8], len: usize) -> Desk
 
 // Carries out a command that leaves the desk as it is.
 fn run_apart(command: Command, line: &[u8])
-    requires { ⌜ command ≡ commandOf (now line) ⌝ }
+    requires { ⌜ ((n : ℕ) → command ≡ Make n → n ≤ 8192) ⌝ }
 {
     match command {
         Command::Bad => bad(),
@@ -272,12 +320,13 @@ fn run_apart(command: Command, line: &[u8])
 
 // Carries out a line.
 fn run_line(desk: Desk, line: &[u8]) -> Desk {
-    let command = commands::parse(line);
+    let command = commands::parse(line, most_litres(desk.second));
     match command {
-        Command::Table(n) => run_table(n),
+        Command::Table(n) => run_table(false, n),
         Command::Call(request) => run_call(desk, request, script::rest(line), 0),
-        Command::Written(n) => run_call(desk, Request1::Written, script::rest(line), n),
-        Command::ListWritten(n) => run_call(desk, Request1::ListWritten, script::rest(line), n),
+        Command::Written(n) => run_call(desk, Request::Written, script::rest(line), n),
+        Command::ListWritten(n) => run_call(desk, Request::ListWritten, script::rest(line), n),
+        Command::Table2(n) => run_table(true, n),
         _ => {
             run_apart(command, line);
             desk
@@ -335,7 +384,7 @@ fn read_all(line: &mut [u8]) -> State {
     let mut state = State {
         more: true,
         used: 0,
-        desk: fresh(512),
+        desk: fresh(false, 512),
     };
     let mut turns = u64::MAX;
     while turns > 0 && state.more {
@@ -346,7 +395,7 @@ fn read_all(line: &mut [u8]) -> State {
 }
 
 fn main() {
-    let mut line = [0u8; 16384];
+    let mut line = [0u8; 65536];
     let state = read_all(&mut line);
     if state.used > 0 {
         end_line(state, &line);

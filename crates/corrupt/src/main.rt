@@ -1,24 +1,31 @@
-// Desks and tables that no history leaves behind, put to the desk's entry. Where row 0 applies, every call but load is refused by it, and the desk, the table and the
+// Desks and tables that no history leaves behind, put to the desk's entry of each edition. Where row 0 applies, every call but load is refused by it, and the desk, the table and the
 // buffer come back as they were; load works. Where only rows 15 or 16 would refuse the held plan, or the content lies beyond what is held, the desk answers from what it holds.
-// Then tables of 0, 3, 512 and 600 places: a call stores what it is to store, and every other place keeps its content.
+// Then tables of 0, 3, 512 and 600 places: a call stores what it is to store, and every other place keeps its content. Last, figures that only edition 2 can hold.
+use density::Site;
 use edition1::Request1;
-use edition1::Store1;
-use edition1::fresh1;
-use entries1::OutOn1;
+use edition1::narrow_store;
+use edition1::widen_store;
 use entries1::call_on1;
+use held_state::Store;
 use store::Answer;
+use store::Request;
+use store_entries2::call_on2;
+use store_entries2::fresh2;
 use table::Site1;
+use table::widen;
 use tally::Tally;
 use tally::tallied;
 
+// A desk and a table of an edition, 1 or 2, in figures. For edition 1 they are narrowed and what a call leaves is widened: a figure that does not fit would not come back.
 struct Desk {
-    store: Store1,
-    table: [Site1; 600],
+    edition: u8,
+    store: Store,
+    table: [Site; 600],
     places: usize,
 }
 
-fn site(first: u8, second: u8, litres: u16) -> Site1 {
-    Site1 {
+fn site(first: u8, second: u8, litres: u32) -> Site {
+    Site {
         first,
         second,
         litres,
@@ -26,13 +33,14 @@ fn site(first: u8, second: u8, litres: u16) -> Site1 {
 }
 
 // A desk of so many sites, of two sites and others alike behind them, and no plan.
-fn listed(count: usize, first: Site1, second: Site1, others: Site1, places: usize) -> Desk {
-    let mut store = fresh1();
+fn listed(e: u8, count: usize, first: Site, second: Site, others: Site, places: usize) -> Desk {
+    let mut store = fresh2();
     store.count = count;
     let mut table = [others; 600];
     table[0] = first;
     table[1] = second;
     Desk {
+        edition: e,
         store,
         table,
         places,
@@ -40,13 +48,13 @@ fn listed(count: usize, first: Site1, second: Site1, others: Site1, places: usiz
 }
 
 // The desk with a plan of two groups and two shares at the front.
-fn planned(d: Desk, grouped: usize, g: u64, h: u64, s: u32, u: u32) -> Desk {
+fn planned(d: Desk, grouped: usize, g: u64, h: u64, s: u64, u: u64) -> Desk {
     let mut store = d.store;
     let table = d.table;
     let mut groups = [0u64; 64];
     groups[0] = g;
     groups[1] = h;
-    let mut shares = [0u32; 512];
+    let mut shares = [0u64; 512];
     shares[0] = s;
     shares[1] = u;
     store.held = true;
@@ -54,14 +62,60 @@ fn planned(d: Desk, grouped: usize, g: u64, h: u64, s: u32, u: u32) -> Desk {
     store.groups = groups;
     store.shares = shares;
     Desk {
+        edition: d.edition,
         store,
         table,
         places: d.places,
     }
 }
 
+// A table, a site and a request at edition 1's widths, and a table as the definition has it.
+fn narrow_site(x: Site) -> Site1 {
+    Site1 {
+        first: x.first,
+        second: x.second,
+        litres: (x.litres % 65536) as u16,
+    }
+}
+
+fn narrow_table(table: [Site; 600]) -> [Site1; 600] {
+    let x = Site1 {
+        first: 0,
+        second: 0,
+        litres: 0,
+    };
+    let mut a = [x; 600];
+    for k in 0..600 {
+        a[k] = narrow_site(table[k]);
+    }
+    a
+}
+
+fn widen_table(table: [Site1; 600]) -> [Site; 600] {
+    let mut a = [site(0, 0, 0); 600];
+    for k in 0..600 {
+        a[k] = widen(table[k]);
+    }
+    a
+}
+
+fn narrow_request(q: Request) -> Request1 {
+    match q {
+        Request::Load => Request1::Load,
+        Request::Change(i, w) => Request1::Change(i, (w % 65536) as u16),
+        Request::Add(f, s, w) => Request1::Add(f, s, (w % 65536) as u16),
+        Request::Propose => Request1::Propose,
+        Request::Share(i) => Request1::Share(i),
+        Request::Depot(d) => Request1::Depot(d),
+        Request::Difference(a, b) => Request1::Difference(a, b),
+        Request::Written => Request1::Written,
+        Request::AtLeast(m) => Request1::AtLeast(m),
+        Request::ListWritten => Request1::ListWritten,
+    }
+}
+
 // Are groups and shares the same?
-fn same_plan(a: Store1, b: Store1) -> bool {
+fn same_plan(a: Store, b: Store) -> bool {
     for k in 0..512 {
         if k < 64 && a.groups[k] != b.groups[k] {
             return false;
@@ -73,7 +127,7 @@ fn same_plan(a: Store1, b: Store1) -> bool {
     true
 }
 
-fn same_site(a: Site1, b: Site1) -> bool {
+fn same_site(a: Site, b: Site) -> bool {
     if a.first != b.first {
         return false;
     }
@@ -83,7 +137,7 @@ fn same_site(a: Site1, b: Site1) -> bool {
     a.litres == b.litres
 }
 
-fn same_table(a: [Site1; 600], b: [Site1; 600]) -> bool {
+fn same_table(a: [Site; 600], b: [Site; 600]) -> bool {
     for k in 0..600 {
         let x = a[k];
         let y = b[k];
@@ -94,7 +148,7 @@ fn same_table(a: [Site1; 600], b: [Site1; 600]) -> bool {
     true
 }
 
-fn same_store(a: Store1, b: Store1) -> bool {
+fn same_store(a: Store, b: Store) -> bool {
     if a.count != b.count {
         return false;
     }
@@ -156,9 +210,11 @@ fn same_answer(a: Answer, b: Answer) -> bool {
     x.difference == y.difference
 }
 
-// What a call leaves, and the buffer that it was lent.
+// What a call leaves, in figures, and the buffer that it was lent.
 struct Left {
-    out: OutOn1,
+    answer: Answer,
+    store: Store,
+    table: [Site; 600],
     buffer: [u8; 20],
 }
 
@@ -167,33 +223,74 @@ fn is_blank(buffer: [u8; 20]) -> bool {
     check::same(&buffer, &whole)
 }
 
-fn called(d: Desk, request: Request1, input: &[u8]) -> Left {
-    let store = d.store;
-    let table = d.table;
+fn called1(d: Desk, request: Request, input: &[u8]) -> Left {
+    let wide = d.store;
+    let sites = d.table;
     let mut buffer = [0xA5u8; 20];
-    let out = call_on1(store, table, d.places, request, input, &mut buffer);
-    Left { out, buffer }
+    let narrow = narrow_store(wide);
+    let lent = narrow_table(sites);
+    let out = call_on1(
+        narrow,
+        lent,
+        d.places,
+        narrow_request(request),
+        input,
+        &mut buffer,
+    );
+    let answer = out.answer;
+    let left = out.store;
+    let rest = out.table;
+    let store = widen_store(left);
+    let table = widen_table(rest);
+    Left {
+        answer,
+        store,
+        table,
+        buffer,
+    }
+}
+
+fn called2(d: Desk, request: Request, input: &[u8]) -> Left {
+    let wide = d.store;
+    let sites = d.table;
+    let mut buffer = [0xA5u8; 20];
+    let out = call_on2(wide, sites, d.places, request, input, &mut buffer);
+    let answer = out.answer;
+    let store = out.store;
+    let table = out.table;
+    Left {
+        answer,
+        store,
+        table,
+        buffer,
+    }
+}
+
+fn called(d: Desk, request: Request, input: &[u8]) -> Left {
+    if d.edition == 1 {
+        return called1(d, request, input);
+    }
+    called2(d, request, input)
 }
 
 // The call gets this answer, and the desk and the table are as before.
 fn answers(d: Desk, left: Left, expected: Answer) -> bool {
-    let out = left.out;
-    let answer = out.answer;
+    let answer = left.answer;
     if !same_answer(answer, expected) {
         return false;
     }
     let before = d.store;
-    let after = out.store;
+    let after = left.store;
     if !same_store(before, after) {
         return false;
     }
     let table = d.table;
-    let sites = out.table;
+    let sites = left.table;
     same_table(table, sites)
 }
 
 // So is the buffer.
-fn stays(d: Desk, request: Request1, input: &[u8], expected: Answer) -> bool {
+fn stays(d: Desk, request: Request, input: &[u8], expected: Answer) -> bool {
     let left = called(d, request, input);
     if !answers(d, left, expected) {
         return false;
@@ -204,7 +301,7 @@ fn stays(d: Desk, request: Request1, input: &[u8], expected: Answer) -> bool {
 
 // The list written out has this length, and the buffer then is this.
 fn lists(d: Desk, n: usize, whole: &[u8]) -> bool {
-    let left = called(d, Request1::ListWritten, b"");
+    let left = called(d, Request::ListWritten, b"");
     if !answers(d, left, Answer::Length(n)) {
         return false;
     }
@@ -213,218 +310,242 @@ fn lists(d: Desk, n: usize, whole: &[u8]) -> bool {
 }
 
 // The call is done, no plan is held then and this many sites are, and all places for groups and shares are zero.
-fn clears(d: Desk, request: Request1, input: &[u8], count: usize) -> bool {
+fn clears(d: Desk, request: Request, input: &[u8], count: usize) -> bool {
     let left = called(d, request, input);
-    let out = left.out;
-    let answer = out.answer;
+    let answer = left.answer;
     if !same_answer(answer, Answer::Done) {
         return false;
     }
-    let after = out.store;
-    let mut bare = fresh1();
+    let after = left.store;
+    let mut bare = fresh2();
     bare.count = count;
     same_store(after, bare)
 }
 
 // A call with no input that changes nothing, and one that is done.
-fn asked(t: Tally, d: Desk, request: Request1, expected: Answer) -> Tally {
+fn asked(t: Tally, d: Desk, request: Request, expected: Answer) -> Tally {
     tallied(t, stays(d, request, b"", expected))
 }
 
-fn cleared(t: Tally, d: Desk, request: Request1, count: usize) -> Tally {
+fn cleared(t: Tally, d: Desk, request: Request, count: usize) -> Tally {
     tallied(t, clears(d, request, b"", count))
 }
 
-// The plan of document 01's list T is proposed, and this row refuses it.
-fn proposed(t: Tally, d: Desk, row: u8) -> Tally {
-    let plan = b"PL\x01\x01\x00GR\x03\x00\x00\x00\x00\x00\x00\x00SH\x0A\x00\x00\x00";
-    tallied(t, stays(d, Request1::Propose, plan, Answer::Refused(row)))
+// A call that this row refuses, with an input of an edition: the desk's own or the other.
+fn given(t: Tally, d: Desk, e: u8, request: Request, old: &[u8], new: &[u8], row: u8) -> Tally {
+    let refused = Answer::Refused(row);
+    if e == 1 {
+        return tallied(t, stays(d, request, old, refused));
+    }
+    tallied(t, stays(d, request, new, refused))
+}
+
+// Document 01's list T, and the plan of it.
+fn loaded_t(t: Tally, d: Desk, e: u8, row: u8) -> Tally {
+    let old = b"LS\x01\x00ST\x00\x01\x0A\x00";
+    let new = b"L2\x01\x00S2\x00\x01\x0A\x00\x00\x00";
+    given(t, d, e, Request::Load, old, new, row)
+}
+
+fn proposed(t: Tally, d: Desk, e: u8, row: u8) -> Tally {
+    let old = b"PL\x01\x01\x00GR\x03\x00\x00\x00\x00\x00\x00\x00SH\x0A\x00\x00\x00";
+    let new = b"P2\x01\x01\x00GR\x03\x00\x00\x00\x00\x00\x00\x00S3\x0A\x00\x00\x00\x00\x00\x00\x00";
+    given(t, d, e, Request::Propose, old, new, row)
 }
 
 // On load the empty list is done, and no bytes are row 1.
 fn loaded(t: Tally, d: Desk) -> Tally {
-    let u = asked(t, d, Request1::Load, Answer::Refused(1));
-    tallied(u, clears(d, Request1::Load, b"LS\x00\x00", 0))
+    let u = asked(t, d, Request::Load, Answer::Refused(1));
+    if d.edition == 1 {
+        return tallied(u, clears(d, Request::Load, b"LS\x00\x00", 0));
+    }
+    tallied(u, clears(d, Request::Load, b"L2\x00\x00", 0))
 }
 
 // The calls that try row 0 answer it: those that would write, and those that only read.
 fn no_writes(start: Tally, d: Desk) -> Tally {
     let zero = Answer::Refused(0);
-    let t = asked(start, d, Request1::Change(0, 1), zero);
-    let u = asked(t, d, Request1::Change(9, 0), zero);
-    let v = asked(u, d, Request1::Add(0, 1, 1), zero);
-    asked(v, d, Request1::Add(64, 0, 0), zero)
+    let t = asked(start, d, Request::Change(0, 1), zero);
+    let u = asked(t, d, Request::Change(9, 0), zero);
+    let v = asked(u, d, Request::Add(0, 1, 1), zero);
+    asked(v, d, Request::Add(64, 0, 0), zero)
 }
 
 fn no_answers(start: Tally, d: Desk) -> Tally {
     let zero = Answer::Refused(0);
-    let t = asked(start, d, Request1::Share(0), zero);
-    let u = asked(t, d, Request1::Depot(0), zero);
-    let v = asked(u, d, Request1::Difference(0, 1), zero);
-    let w = asked(v, d, Request1::AtLeast(0), zero);
-    let x = asked(w, d, Request1::ListWritten, zero);
-    asked(x, d, Request1::Written, zero)
+    let t = asked(start, d, Request::Share(0), zero);
+    let u = asked(t, d, Request::Depot(0), zero);
+    let v = asked(u, d, Request::Difference(0, 1), zero);
+    let w = asked(v, d, Request::AtLeast(0), zero);
+    let x = asked(w, d, Request::ListWritten, zero);
+    asked(x, d, Request::Written, zero)
 }
 
 // Row 0 in every call but load; a list that is refused, and the empty list, which is not.
 fn corrupt(start: Tally, d: Desk) -> Tally {
-    loaded(proposed(no_answers(no_writes(start, d), d), d, 0), d)
+    let t = no_answers(no_writes(start, d), d);
+    loaded(proposed(t, d, d.edition, 0), d)
 }
 
 // A desk of so many sites (0,1) of 10, over so many places.
-fn counted(t: Tally, count: usize, places: usize) -> Tally {
+fn counted(t: Tally, e: u8, count: usize, places: usize) -> Tally {
     let x = site(0, 1, 10);
-    corrupt(t, listed(count, x, x, x, places))
+    corrupt(t, listed(e, count, x, x, x, places))
 }
 
 // "held site count above 512 or the table's places"
-fn corrupt_counts(start: Tally) -> Tally {
-    let t = counted(start, 1, 0);
-    let u = counted(counted(t, 2, 1), 513, 600);
-    let v = counted(counted(u, 600, 600), 601, 600);
-    counted(v, 18446744073709551615, 18446744073709551615)
+fn corrupt_counts(start: Tally, e: u8) -> Tally {
+    let t = counted(start, e, 1, 0);
+    let u = counted(counted(t, e, 2, 1), e, 513, 600);
+    let v = counted(counted(u, e, 600, 600), e, 601, 600);
+    counted(v, e, 18446744073709551615, 18446744073709551615)
 }
 
 // A held site behind a sound one, and the same as the first, without a plan and with one.
-fn with_site(start: Tally, x: Site1) -> Tally {
+fn with_site(start: Tally, e: u8, x: Site) -> Tally {
     let sound = site(0, 1, 10);
-    let first = listed(1, x, sound, sound, 9);
+    let first = listed(e, 1, x, sound, sound, 9);
     let t = corrupt(start, first);
     let u = corrupt(t, planned(first, 1, 3, 0, 10, 0));
-    corrupt(u, listed(2, sound, x, sound, 2))
+    corrupt(u, listed(e, 2, sound, x, sound, 2))
 }
 
 // "a held site that rows 5 or 6 refuse"
-fn corrupt_sites(start: Tally) -> Tally {
-    let t = with_site(start, site(0, 64, 10));
-    let u = with_site(t, site(255, 0, 10));
-    let v = with_site(u, site(0, 1, 0));
+fn corrupt_sites(start: Tally, e: u8) -> Tally {
+    let t = with_site(start, e, site(0, 64, 10));
+    let u = with_site(t, e, site(255, 0, 10));
+    let v = with_site(u, e, site(0, 1, 0));
     let x = site(0, 1, 10);
-    corrupt(v, listed(512, x, x, site(0, 0, 0), 512))
+    corrupt(v, listed(e, 512, x, x, site(0, 0, 0), 512))
 }
 
 // T with a held plan of two groups and a share.
-fn with_plan(t: Tally, grouped: usize, g: u64, h: u64, s: u32) -> Tally {
+fn with_plan(t: Tally, e: u8, grouped: usize, g: u64, h: u64, s: u64) -> Tally {
     let no = site(0, 0, 0);
-    let one = listed(1, site(0, 1, 10), no, no, 512);
+    let one = listed(e, 1, site(0, 1, 10), no, no, 512);
     corrupt(t, planned(one, grouped, g, h, s, 0))
 }
 
 // "a held plan that rows 8 or 12 .. refuse": too many groups, groups that meet, an empty one
-fn corrupt_groups(start: Tally) -> Tally {
-    let t = with_plan(start, 65, 3, 0, 10);
-    let u = with_plan(t, 18446744073709551615, 3, 0, 10);
-    let v = with_plan(u, 2, 1, 3, 10);
-    with_plan(with_plan(v, 2, 3, 0, 10), 64, 3, 0, 10)
+fn corrupt_groups(start: Tally, e: u8) -> Tally {
+    let t = with_plan(start, e, 65, 3, 0, 10);
+    let u = with_plan(t, e, 18446744073709551615, 3, 0, 10);
+    let v = with_plan(u, e, 2, 1, 3, 10);
+    with_plan(with_plan(v, e, 2, 3, 0, 10), e, 64, 3, 0, 10)
 }
 
 // rows 13 and 14: a listed depot in no group, one that is not listed; a share above w × q
-fn corrupt_shares(start: Tally) -> Tally {
-    let t = with_plan(start, 0, 3, 0, 10);
-    let u = with_plan(t, 1, 1, 2, 10);
-    let v = with_plan(u, 1, 7, 0, 10);
-    with_plan(with_plan(v, 1, 3, 0, 21), 1, 3, 0, 4294967295)
+fn corrupt_shares(start: Tally, e: u8) -> Tally {
+    let t = with_plan(start, e, 0, 3, 0, 10);
+    let u = with_plan(t, e, 1, 1, 2, 10);
+    let v = with_plan(u, e, 1, 7, 0, 10);
+    with_plan(with_plan(v, e, 1, 3, 0, 21), e, 1, 3, 0, 4294967295)
 }
 
 // row 14: own 0 of 7 and (0,1) of 6, the own site not whole; a share to an earlier group; a share above w × q
-fn corrupt_own(start: Tally) -> Tally {
+fn corrupt_own(start: Tally, e: u8) -> Tally {
     let no = site(0, 0, 0);
-    let two = listed(2, site(0, 0, 7), site(0, 1, 6), no, 2);
+    let two = listed(e, 2, site(0, 0, 7), site(0, 1, 6), no, 2);
     let t = corrupt(start, planned(two, 2, 1, 2, 6, 0));
     let u = corrupt(t, planned(two, 2, 1, 2, 7, 1));
     corrupt(u, planned(two, 1, 3, 0, 14, 13))
 }
 
-// The list written out.
-fn written_out(t: Tally, d: Desk, n: usize, whole: &[u8]) -> Tally {
-    tallied(t, lists(d, n, whole))
+// The list written out: its length and the buffer then, in edition 1 and in edition 2.
+fn written_out(t: Tally, d: Desk, n: usize, old: &[u8], m: usize, new: &[u8]) -> Tally {
+    if d.edition == 1 {
+        return tallied(t, lists(d, n, old));
+    }
+    tallied(t, lists(d, m, new))
 }
 
-// The list T, of 10 bytes.
+// The list T.
 fn written_t(t: Tally, d: Desk) -> Tally {
-    let whole = b"LS\x01\x00ST\x00\x01\x0A\x00\xA5\xA5\xA5\xA5\xA5\xA5\xA5\xA5\xA5\xA5";
-    written_out(t, d, 10, whole)
+    let old = b"LS\x01\x00ST\x00\x01\x0A\x00\xA5\xA5\xA5\xA5\xA5\xA5\xA5\xA5\xA5\xA5";
+    let new = b"L2\x01\x00S2\x00\x01\x0A\x00\x00\x00\xA5\xA5\xA5\xA5\xA5\xA5\xA5\xA5";
+    written_out(t, d, 10, old, 12, new)
 }
 
 // A plan that only row 15 refuses is answered from what is held.
-fn uneven(start: Tally) -> Tally {
+fn uneven(start: Tally, e: u8) -> Tally {
     let no = site(0, 0, 0);
-    let d = planned(listed(1, site(0, 1, 10), no, no, 1), 1, 3, 0, 11, 0);
-    let t = asked(start, d, Request1::Share(0), Answer::Share(11, 20));
-    let u = asked(t, d, Request1::Depot(1), Answer::Depot(10, 2));
-    let v = asked(u, d, Request1::Written, Answer::Refused(20));
+    let d = planned(listed(e, 1, site(0, 1, 10), no, no, 1), 1, 3, 0, 11, 0);
+    let t = asked(start, d, Request::Share(0), Answer::Share(11, 20));
+    let u = asked(t, d, Request::Depot(1), Answer::Depot(10, 2));
+    let v = asked(u, d, Request::Written, Answer::Refused(20));
     let w = written_t(v, d);
-    cleared(w, d, Request1::Change(0, 10), 1)
+    cleared(w, d, Request::Change(0, 10), 1)
 }
 
 // A plan that only row 16 refuses likewise.
-fn rising(start: Tally) -> Tally {
+fn rising(start: Tally, e: u8) -> Tally {
     let no = site(0, 0, 0);
-    let two = listed(2, site(0, 0, 4), site(1, 1, 4), no, 600);
+    let two = listed(e, 2, site(0, 0, 4), site(1, 1, 4), no, 600);
     let d = planned(two, 2, 1, 2, 4, 4);
-    let t = asked(start, d, Request1::Depot(0), Answer::Depot(4, 1));
+    let t = asked(start, d, Request::Depot(0), Answer::Depot(4, 1));
     let zero = Answer::Difference(0, 1);
-    let u = asked(t, d, Request1::Difference(0, 1), zero);
-    let v = proposed(u, d, 9);
-    let whole = b"LS\x02\x00ST\x00\x00\x04\x00ST\x01\x01\x04\x00\xA5\xA5\xA5\xA5";
-    let w = written_out(v, d, 16, whole);
-    cleared(w, d, Request1::Add(0, 1, 1), 3)
+    let u = asked(t, d, Request::Difference(0, 1), zero);
+    let v = proposed(u, d, e, 9);
+    let old = b"LS\x02\x00ST\x00\x00\x04\x00ST\x01\x01\x04\x00\xA5\xA5\xA5\xA5";
+    let new = b"L2\x02\x00S2\x00\x00\x04\x00\x00\x00S2\x01\x01\x04\x00\x00\x00";
+    let w = written_out(v, d, 16, old, 20, new);
+    cleared(w, d, Request::Add(0, 1, 1), 3)
 }
 
 // The depots that reach a threshold are read from the held groups in order, up to the first below it. Here W/q is 4 and then 9, which only row 16 refuses.
-fn rising_read(start: Tally) -> Tally {
+fn rising_read(start: Tally, e: u8) -> Tally {
     let no = site(0, 0, 0);
-    let two = listed(2, site(0, 0, 4), site(1, 1, 9), no, 2);
+    let two = listed(e, 2, site(0, 0, 4), site(1, 1, 9), no, 2);
     let d = planned(two, 2, 1, 2, 4, 9);
-    let t = asked(start, d, Request1::AtLeast(0), Answer::Reached(3));
-    let u = asked(t, d, Request1::AtLeast(4), Answer::Reached(3));
-    let v = asked(u, d, Request1::AtLeast(5), Answer::Reached(0));
-    asked(v, d, Request1::AtLeast(9), Answer::Reached(0))
+    let t = asked(start, d, Request::AtLeast(0), Answer::Reached(3));
+    let u = asked(t, d, Request::AtLeast(4), Answer::Reached(3));
+    let v = asked(u, d, Request::AtLeast(5), Answer::Reached(0));
+    asked(v, d, Request::AtLeast(9), Answer::Reached(0))
 }
 
 // Here it is 9 and then 4: at 9, 5 and 4, above 9, and far above.
-fn falling_read(start: Tally) -> Tally {
+fn falling_read(start: Tally, e: u8) -> Tally {
     let no = site(0, 0, 0);
-    let two = listed(2, site(0, 0, 4), site(1, 1, 9), no, 2);
+    let two = listed(e, 2, site(0, 0, 4), site(1, 1, 9), no, 2);
     let d = planned(two, 2, 2, 1, 4, 9);
-    let t = asked(start, d, Request1::AtLeast(4), Answer::Reached(3));
-    let u = asked(t, d, Request1::AtLeast(5), Answer::Reached(2));
-    let v = asked(u, d, Request1::AtLeast(9), Answer::Reached(2));
-    let w = asked(v, d, Request1::AtLeast(10), Answer::Reached(0));
-    let x = asked(w, d, Request1::AtLeast(65536), Answer::Reached(0));
-    asked(x, d, Request1::AtLeast(4294967295), Answer::Reached(0))
+    let t = asked(start, d, Request::AtLeast(4), Answer::Reached(3));
+    let u = asked(t, d, Request::AtLeast(5), Answer::Reached(2));
+    let v = asked(u, d, Request::AtLeast(9), Answer::Reached(2));
+    let w = asked(v, d, Request::AtLeast(10), Answer::Reached(0));
+    let x = asked(w, d, Request::AtLeast(65536), Answer::Reached(0));
+    asked(x, d, Request::AtLeast(4294967295), Answer::Reached(0))
 }
 
 // Content beyond what is held is no corruption: places of the table, of groups and of shares.
-fn beyond(start: Tally) -> Tally {
+fn beyond(start: Tally, e: u8) -> Tally {
     let bad = site(255, 255, 0);
-    let one = listed(1, site(0, 1, 10), bad, bad, 600);
+    let one = listed(e, 1, site(0, 1, 10), bad, bad, 600);
     let d = planned(one, 1, 3, 3, 10, 77);
-    let t = asked(start, d, Request1::Share(0), Answer::Share(10, 20));
-    let u = asked(t, d, Request1::Depot(0), Answer::Depot(10, 2));
-    let v = asked(u, d, Request1::Share(1), Answer::Refused(18));
-    let w = asked(v, d, Request1::AtLeast(5), Answer::Reached(3));
-    let x = asked(w, d, Request1::AtLeast(6), Answer::Reached(0));
+    let t = asked(start, d, Request::Share(0), Answer::Share(10, 20));
+    let u = asked(t, d, Request::Depot(0), Answer::Depot(10, 2));
+    let v = asked(u, d, Request::Share(1), Answer::Refused(18));
+    let w = asked(v, d, Request::AtLeast(5), Answer::Reached(3));
+    let x = asked(w, d, Request::AtLeast(6), Answer::Reached(0));
     let y = written_t(x, d);
-    cleared(y, d, Request1::Add(2, 3, 4), 2)
+    cleared(y, d, Request::Add(2, 3, 4), 2)
 }
 
 // Nor is a plan's content beside "no plan held".
-fn beside(start: Tally) -> Tally {
+fn beside(start: Tally, e: u8) -> Tally {
     let bad = site(255, 255, 0);
-    let one = listed(1, site(0, 1, 10), bad, bad, 1);
+    let one = listed(e, 1, site(0, 1, 10), bad, bad, 1);
     let mut d = planned(one, 65, 3, 3, 99, 77);
     d.store.held = false;
-    let s = asked(start, d, Request1::AtLeast(0), Answer::Refused(17));
-    let t = asked(s, d, Request1::Share(0), Answer::Refused(17));
-    let u = asked(t, d, Request1::Add(0, 1, 1), Answer::Refused(2));
-    let v = asked(u, d, Request1::Propose, Answer::Refused(7));
+    let s = asked(start, d, Request::AtLeast(0), Answer::Refused(17));
+    let t = asked(s, d, Request::Share(0), Answer::Refused(17));
+    let u = asked(t, d, Request::Add(0, 1, 1), Answer::Refused(2));
+    let v = asked(u, d, Request::Propose, Answer::Refused(7));
     let w = written_t(v, d);
-    cleared(w, d, Request1::Change(0, 10), 1)
+    cleared(w, d, Request::Change(0, 10), 1)
 }
 
 // The table with another site at a place, if it has that place.
-fn with_place(table: [Site1; 600], k: usize, x: Site1) -> [Site1; 600] {
+fn with_place(table: [Site; 600], k: usize, x: Site) -> [Site; 600] {
     let mut t = table;
     if k < 600 {
         t[k] = x;
@@ -433,15 +554,14 @@ fn with_place(table: [Site1; 600], k: usize, x: Site1) -> [Site1; 600] {
 }
 
 // The call is done, this many sites are held then and no plan, this site stands at this place, and all other places keep their content.
-fn stores(d: Desk, request: Request1, input: &[u8], count: usize, k: usize, x: Site1) -> bool {
+fn stores(d: Desk, request: Request, input: &[u8], count: usize, k: usize, x: Site) -> bool {
     if !clears(d, request, input, count) {
         return false;
     }
     let left = called(d, request, input);
-    let out = left.out;
     let before = d.table;
     let expected = with_place(before, k, x);
-    let table = out.table;
+    let table = left.table;
     if !same_table(expected, table) {
         return false;
     }
@@ -451,57 +571,141 @@ fn stores(d: Desk, request: Request1, input: &[u8], count: usize, k: usize, x: S
 
 // A change of the last site held and an add.
 fn stored_one(start: Tally, d: Desk, last: usize, count: usize, all: usize) -> Tally {
-    let change = Request1::Change(last, 7);
+    let change = Request::Change(last, 7);
     let t = tallied(start, stores(d, change, b"", count, last, site(2, 3, 7)));
-    let add = Request1::Add(4, 5, 6);
+    let add = Request::Add(4, 5, 6);
     tallied(t, stores(d, add, b"", all, count, site(4, 5, 6)))
 }
 
 // The list T.
 fn stored_list(t: Tally, d: Desk) -> Tally {
-    let list = b"LS\x01\x00ST\x00\x01\x0A\x00";
-    tallied(t, stores(d, Request1::Load, list, 1, 0, site(0, 1, 10)))
+    let x = site(0, 1, 10);
+    if d.edition == 1 {
+        let old = b"LS\x01\x00ST\x00\x01\x0A\x00";
+        return tallied(t, stores(d, Request::Load, old, 1, 0, x));
+    }
+    let new = b"L2\x01\x00S2\x00\x01\x0A\x00\x00\x00";
+    tallied(t, stores(d, Request::Load, new, 1, 0, x))
 }
 
 // Calls that are refused: no bytes, a site that is not held, a list of at least 22 bytes written out, and a site more than the table has places, or than 512.
 fn stored_none(start: Tally, d: Desk, count: usize, full: Desk) -> Tally {
-    let t = asked(start, d, Request1::Load, Answer::Refused(1));
-    let u = asked(t, d, Request1::Change(count, 7), Answer::Refused(18));
-    let v = asked(u, full, Request1::ListWritten, Answer::Refused(20));
-    asked(v, full, Request1::Add(4, 5, 6), Answer::Refused(2))
+    let t = asked(start, d, Request::Load, Answer::Refused(1));
+    let u = asked(t, d, Request::Change(count, 7), Answer::Refused(18));
+    let v = asked(u, full, Request::ListWritten, Answer::Refused(20));
+    asked(v, full, Request::Add(4, 5, 6), Answer::Refused(2))
 }
 
 // A table of so many places, of which all, or 512, can hold sites, and all of these but one do.
-fn lent(start: Tally, last: usize, count: usize, all: usize, places: usize) -> Tally {
+fn lent(start: Tally, e: u8, last: usize, count: usize, all: usize, places: usize) -> Tally {
     let x = site(2, 3, 5);
-    let d = listed(count, x, x, x, places);
-    let full = listed(all, x, x, x, places);
+    let d = listed(e, count, x, x, x, places);
+    let full = listed(e, all, x, x, x, places);
     let t = stored_list(stored_one(start, d, last, count, all), d);
     stored_none(t, d, count, full)
 }
 
+// The empty list.
+fn stored_empty(t: Tally, d: Desk, x: Site) -> Tally {
+    if d.edition == 1 {
+        return tallied(t, stores(d, Request::Load, b"LS\x00\x00", 0, 600, x));
+    }
+    tallied(t, stores(d, Request::Load, b"L2\x00\x00", 0, 600, x))
+}
+
 // A table of no places.
-fn lent_none(start: Tally) -> Tally {
+fn lent_none(start: Tally, e: u8) -> Tally {
     let x = site(2, 3, 5);
-    let d = listed(0, x, x, x, 0);
-    let list = b"LS\x01\x00ST\x00\x01\x0A\x00";
-    let t = tallied(start, stays(d, Request1::Load, list, Answer::Refused(2)));
-    let u = asked(t, d, Request1::Change(0, 7), Answer::Refused(18));
-    let v = asked(u, d, Request1::Add(4, 5, 6), Answer::Refused(2));
-    let whole = b"LS\x00\x00\xA5\xA5\xA5\xA5\xA5\xA5\xA5\xA5\xA5\xA5\xA5\xA5\xA5\xA5\xA5\xA5";
-    let w = written_out(v, d, 4, whole);
-    let empty = stores(d, Request1::Load, b"LS\x00\x00", 0, 600, x);
-    tallied(w, empty)
+    let d = listed(e, 0, x, x, x, 0);
+    let t = loaded_t(start, d, e, 2);
+    let u = asked(t, d, Request::Change(0, 7), Answer::Refused(18));
+    let v = asked(u, d, Request::Add(4, 5, 6), Answer::Refused(2));
+    let none = b"LS\x00\x00\xA5\xA5\xA5\xA5\xA5\xA5\xA5\xA5\xA5\xA5\xA5\xA5\xA5\xA5\xA5\xA5";
+    let none2 = b"L2\x00\x00\xA5\xA5\xA5\xA5\xA5\xA5\xA5\xA5\xA5\xA5\xA5\xA5\xA5\xA5\xA5\xA5";
+    let w = written_out(v, d, 4, none, 4, none2);
+    stored_empty(w, d, x)
+}
+
+// A list and a plan of the other edition, at a desk that holds T: rows 1 and 7.
+fn other_edition(start: Tally, e: u8, other: u8) -> Tally {
+    let x = site(0, 1, 10);
+    let d = listed(e, 1, x, x, x, 2);
+    proposed(loaded_t(start, d, other, 1), d, other, 7)
+}
+
+// Figures that only edition 2 can hold: one site of the most litres, between two depots, and a share of 33 bits, which only row 15 refuses.
+fn large(start: Tally) -> Tally {
+    let no = site(0, 0, 0);
+    let one = listed(2, 1, site(0, 1, 4294967295), no, no, 1);
+    let d = planned(one, 1, 3, 0, 4294967296, 0);
+    let share = Answer::Share(4294967296, 8589934590);
+    let t = asked(start, d, Request::Share(0), share);
+    let u = asked(t, d, Request::Depot(1), Answer::Depot(4294967295, 2));
+    let v = asked(u, d, Request::AtLeast(2147483647), Answer::Reached(3));
+    let w = asked(v, d, Request::AtLeast(2147483648), Answer::Reached(0));
+    let whole = b"L2\x01\x00S2\x00\x01\xFF\xFF\xFF\xFF\xA5\xA5\xA5\xA5\xA5\xA5\xA5\xA5";
+    let x = written_out(w, d, 0, b"", 12, whole);
+    cleared(x, d, Request::Change(0, 65536), 1)
+}
+
+// Two own sites, of the most litres and of 65,536, and the difference of their depots.
+fn large_own(start: Tally) -> Tally {
+    let no = site(0, 0, 0);
+    let two = listed(2, 2, site(0, 0, 4294967295), site(1, 1, 65536), no, 2);
+    let d = planned(two, 2, 1, 2, 4294967295, 65536);
+    let less = Answer::Difference(-4294901759, 1);
+    let t = asked(start, d, Request::Difference(1, 0), less);
+    let u = asked(t, d, Request::Share(1), Answer::Share(65536, 65536));
+    let v = asked(u, d, Request::AtLeast(4294967295), Answer::Reached(1));
+    asked(v, d, Request::AtLeast(65536), Answer::Reached(3))
+}
+
+// Row 0: a site with the most litres that row 5 refuses; shares one above w × q, and whole in their low 32 bits alone.
+fn large_corrupt(start: Tally) -> Tally {
+    let t = with_site(start, 2, site(0, 64, 4294967295));
+    let no = site(0, 0, 0);
+    let one = listed(2, 1, site(0, 1, 4294967295), no, no, 1);
+    let u = corrupt(t, planned(one, 1, 3, 0, 8589934591, 0));
+    let v = corrupt(u, planned(one, 1, 3, 0, 18446744073709551615, 0));
+    let own = listed(2, 1, site(0, 0, 65536), no, no, 1);
+    corrupt(v, planned(own, 1, 1, 0, 4295032832, 0))
+}
+
+// A change, an add and a load of such litres.
+fn large_stored(start: Tally) -> Tally {
+    let x = site(2, 3, 5);
+    let d = listed(2, 2, x, x, x, 3);
+    let change = Request::Change(1, 65536);
+    let t = tallied(start, stores(d, change, b"", 2, 1, site(2, 3, 65536)));
+    let add = Request::Add(4, 5, 4294967295);
+    let most = site(4, 5, 4294967295);
+    let u = tallied(t, stores(d, add, b"", 3, 2, most));
+    let list = b"L2\x01\x00S2\x00\x01\x00\x00\x01\x00";
+    tallied(u, stores(d, Request::Load, list, 1, 0, site(0, 1, 65536)))
+}
+
+// The cases of an edition.
+fn desks(start: Tally, e: u8) -> Tally {
+    let lists = corrupt_sites(corrupt_counts(start, e), e);
+    let groups = corrupt_groups(lists, e);
+    let plans = corrupt_own(corrupt_shares(groups, e), e);
+    let odd = rising(uneven(plans, e), e);
+    let reads = falling_read(rising_read(odd, e), e);
+    beside(beyond(reads, e), e)
+}
+
+fn tables(start: Tally, e: u8) -> Tally {
+    let some = lent(lent_none(start, e), e, 1, 2, 3, 3);
+    let many = lent(some, e, 510, 511, 512, 512);
+    lent(many, e, 510, 511, 512, 600)
 }
 
 fn main() {
     let none = tally::nothing();
-    let lists = corrupt_sites(corrupt_counts(none));
-    let plans = corrupt_own(corrupt_shares(corrupt_groups(lists)));
-    let odd = falling_read(rising_read(rising(uneven(plans))));
-    let t = beside(beyond(odd));
-    tally::print(b"corrupt desks", t);
-    let some = lent(lent_none(none), 1, 2, 3, 3);
-    let many = lent(some, 510, 511, 512, 512);
-    tally::print(b"lent tables", lent(many, 510, 511, 512, 600));
+    tally::print(b"corrupt desks", desks(desks(none, 1), 2));
+    tally::print(b"lent tables", tables(tables(none, 1), 2));
+    let others = other_edition(other_edition(none, 1, 2), 2, 1);
+    tally::print(b"the other edition", others);
+    let large = large_stored(large_corrupt(large_own(large(none))));
+    tally::print(b"large figures", large);
 }

@@ -1,4 +1,4 @@
-// The first program: reads a list on standard input, at most 3,077 bytes, makes a plan, and prints the listed depots with their groups, W and q.
+// The first program: reads a list of edition 1 on standard input, at most 3,077 bytes, makes a plan, and prints the listed depots with their groups, W and q.
 use figures::Figures;
 use libc::STDIN_FILENO;
 use libc::STDOUT_FILENO;
@@ -46,7 +46,7 @@ fn print_refusal(row: u8) {
 
 // Prints what the program says of a list.
 fn print(input: &[u8]) {
-    let found = figures::read(input);
+    let found = figures::read(records::edition1(), input);
     let answer = found.answer;
     match answer {
         Read::Count(_) => print_lines(found.figures),

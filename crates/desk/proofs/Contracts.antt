@@ -1,4 +1,5 @@
--- The contract of each exported function of the store, as the program logic has it, says what the definitions of `codes/specs/Codes` say of edition 1, and asks nothing.
+-- The contract of each exported function of the store, as the program logic has it, says what the definitions of `codes/specs/Codes` say of the store's edition, told by its
+-- length, or of the edition that the function is for, and asks nothing.
 -- Each holds by computation, so a changed contract is refused here. Assumes nothing.
 use Prim.Native.Nat.{ℕ}
 use mathlib.Core.List.{List, []}
@@ -14,14 +15,18 @@ use ghost.Atoms.{Atoms}
 use base.Logic.{SProp}
 use denote.Ref.{RefT, now}
 use lib.IntN.{ℤ}
-use Rattle.records.specs.Format.{edition1}
+use Rattle.records.specs.declared.Edition.{Edition}
+use Rattle.records.specs.Format.{edition1, edition2}
 use Rattle.store.specs.declared.Request.the-variants.{Load, Change, Add, Propose, Share, Depot, Difference, Written, AtLeast, ListWritten}
-use Rattle.codes.specs.Codes.{Did, Figures, OneFigure, Differs, WroteOut, FreshCode}
-use Rattle.desk.specs.Exports.{asked}
+use Rattle.codes.specs.Codes.{editionIn, Did, Figures, OneFigure, Differs, WroteOut, FreshCode}
+use Rattle.desk.specs.Exports.{coded, written, Exported, editionFor, asked}
 use Rattle.desk.proofs.sulgheti_fresh as of-fresh
+use Rattle.desk.proofs.sulgheti_fresh2 as of-fresh2
 use Rattle.desk.proofs.sulgheti_load as of-load
 use Rattle.desk.proofs.sulgheti_change as of-change
+use Rattle.desk.proofs.sulgheti_change2 as of-change2
 use Rattle.desk.proofs.sulgheti_add as of-add
+use Rattle.desk.proofs.sulgheti_add2 as of-add2
 use Rattle.desk.proofs.sulgheti_propose as of-propose
 use Rattle.desk.proofs.sulgheti_share as of-share
 use Rattle.desk.proofs.sulgheti_depot as of-depot
@@ -39,10 +44,16 @@ module _ {M : Type 1} (𝓤 : URA M) (H : Heap 𝓤) (A : Atoms 𝓤) (mem : Mem
   fresh-asks : (κs : Lfts 1) → of-fresh.clauses 𝓤 H A mem run κs (s, tt) .requires tt ≡ ⊤ₛ
   fresh-asks κs = refl
 
+  fresh2-says : (κs : Lfts 1) (r : ℤ) → of-fresh2.clauses 𝓤 H A mem run κs (s, tt) .ensures tt r (s', tt) ≡ ⌜ FreshCode edition2 (now s) r (now s') ⌝
+  fresh2-says κs r = refl
+
+  fresh2-asks : (κs : Lfts 1) → of-fresh2.clauses 𝓤 H A mem run κs (s, tt) .requires tt ≡ ⊤ₛ
+  fresh2-asks κs = refl
+
   module _ (t t' : RefT (List ℕ)) (r : ℤ) where
     load-says : (κs : Lfts 3) (list list' : RefT (List ℕ))
         → of-load.clauses 𝓤 H A mem run κs (s, (t, (list, tt))) .ensures tt r (s', (t', (list', tt)))
-        ≡ ⌜ Did edition1 (now s) (now t) (asked Load (now list) []) r (now s') (now t') ⌝
+        ≡ ⌜ Did (editionIn (now s)) (now s) (now t) (asked Load (now list) []) r (now s') (now t') ⌝
     load-says κs list list' = refl
 
     load-asks : (κs : Lfts 3) (list : RefT (List ℕ)) → of-load.clauses 𝓤 H A mem run κs (s, (t, (list, tt))) .requires tt ≡ ⊤ₛ
@@ -64,9 +75,25 @@ module _ {M : Type 1} (𝓤 : URA M) (H : Heap 𝓤) (A : Atoms 𝓤) (mem : Mem
     add-asks : (κs : Lfts 2) (f : ℕ) (d : ℕ) (w : ℕ) → of-add.clauses 𝓤 H A mem run κs (s, (t, (f, (d, (w, tt))))) .requires tt ≡ ⊤ₛ
     add-asks κs f d w = refl
 
+    change2-says : (κs : Lfts 2) (i : ℕ) (w : ℕ)
+        → of-change2.clauses 𝓤 H A mem run κs (s, (t, (i, (w, tt)))) .ensures tt r (s', (t', (i, (w, tt))))
+        ≡ ⌜ Did edition2 (now s) (now t) (asked (Change i w) [] []) r (now s') (now t') ⌝
+    change2-says κs i w = refl
+
+    change2-asks : (κs : Lfts 2) (i : ℕ) (w : ℕ) → of-change2.clauses 𝓤 H A mem run κs (s, (t, (i, (w, tt)))) .requires tt ≡ ⊤ₛ
+    change2-asks κs i w = refl
+
+    add2-says : (κs : Lfts 2) (f : ℕ) (d : ℕ) (w : ℕ)
+        → of-add2.clauses 𝓤 H A mem run κs (s, (t, (f, (d, (w, tt))))) .ensures tt r (s', (t', (f, (d, (w, tt)))))
+        ≡ ⌜ Did edition2 (now s) (now t) (asked (Add f d w) [] []) r (now s') (now t') ⌝
+    add2-says κs f d w = refl
+
+    add2-asks : (κs : Lfts 2) (f : ℕ) (d : ℕ) (w : ℕ) → of-add2.clauses 𝓤 H A mem run κs (s, (t, (f, (d, (w, tt))))) .requires tt ≡ ⊤ₛ
+    add2-asks κs f d w = refl
+
     propose-says : (κs : Lfts 3) (plan plan' : RefT (List ℕ))
         → of-propose.clauses 𝓤 H A mem run κs (s, (t, (plan, tt))) .ensures tt r (s', (t', (plan', tt)))
-        ≡ ⌜ Did edition1 (now s) (now t) (asked Propose (now plan) []) r (now s') (now t) ⌝
+        ≡ ⌜ Did (editionIn (now s)) (now s) (now t) (asked Propose (now plan) []) r (now s') (now t) ⌝
     propose-says κs plan plan' = refl
 
     propose-asks : (κs : Lfts 3) (plan : RefT (List ℕ)) → of-propose.clauses 𝓤 H A mem run κs (s, (t, (plan, tt))) .requires tt ≡ ⊤ₛ
@@ -74,7 +101,7 @@ module _ {M : Type 1} (𝓤 : URA M) (H : Heap 𝓤) (A : Atoms 𝓤) (mem : Mem
 
     share-says : (κs : Lfts 4) (i : ℕ) (x x' : RefT ℕ) (y y' : RefT ℕ)
         → of-share.clauses 𝓤 H A mem run κs (s, (t, (i, (x, (y, tt))))) .ensures tt r (s', (t', (i, (x', (y', tt)))))
-        ≡ ⌜ Figures edition1 (now s) (now t) (asked (Share i) [] []) r (now x) (now y) (now x') (now y') ⌝
+        ≡ ⌜ Figures (editionIn (now s)) (now s) (now t) (asked (Share i) [] []) r (now x) (now y) (now x') (now y') ⌝
     share-says κs i x x' y y' = refl
 
     share-asks : (κs : Lfts 4) (i : ℕ) (x : RefT ℕ) (y : RefT ℕ) → of-share.clauses 𝓤 H A mem run κs (s, (t, (i, (x, (y, tt))))) .requires tt ≡ ⊤ₛ
@@ -82,7 +109,7 @@ module _ {M : Type 1} (𝓤 : URA M) (H : Heap 𝓤) (A : Atoms 𝓤) (mem : Mem
 
     depot-says : (κs : Lfts 4) (d : ℕ) (x x' : RefT ℕ) (y y' : RefT ℕ)
         → of-depot.clauses 𝓤 H A mem run κs (s, (t, (d, (x, (y, tt))))) .ensures tt r (s', (t', (d, (x', (y', tt)))))
-        ≡ ⌜ Figures edition1 (now s) (now t) (asked (Depot d) [] []) r (now x) (now y) (now x') (now y') ⌝
+        ≡ ⌜ Figures (editionIn (now s)) (now s) (now t) (asked (Depot d) [] []) r (now x) (now y) (now x') (now y') ⌝
     depot-says κs d x x' y y' = refl
 
     depot-asks : (κs : Lfts 4) (d : ℕ) (x : RefT ℕ) (y : RefT ℕ) → of-depot.clauses 𝓤 H A mem run κs (s, (t, (d, (x, (y, tt))))) .requires tt ≡ ⊤ₛ
@@ -90,7 +117,7 @@ module _ {M : Type 1} (𝓤 : URA M) (H : Heap 𝓤) (A : Atoms 𝓤) (mem : Mem
 
     difference-says : (κs : Lfts 4) (a : ℕ) (b : ℕ) (x x' : RefT ℤ) (y y' : RefT ℕ)
         → of-difference.clauses 𝓤 H A mem run κs (s, (t, (a, (b, (x, (y, tt)))))) .ensures tt r (s', (t', (a, (b, (x', (y', tt))))))
-        ≡ ⌜ Differs edition1 (now s) (now t) (asked (Difference a b) [] []) r (now x) (now y) (now x') (now y') ⌝
+        ≡ ⌜ Differs (editionIn (now s)) (now s) (now t) (asked (Difference a b) [] []) r (now x) (now y) (now x') (now y') ⌝
     difference-says κs a b x x' y y' = refl
 
     difference-asks : (κs : Lfts 4) (a : ℕ) (b : ℕ) (x : RefT ℤ) (y : RefT ℕ) → of-difference.clauses 𝓤 H A mem run κs (s, (t, (a, (b, (x, (y, tt)))))) .requires tt ≡ ⊤ₛ
@@ -98,7 +125,7 @@ module _ {M : Type 1} (𝓤 : URA M) (H : Heap 𝓤) (A : Atoms 𝓤) (mem : Mem
 
     written-says : (κs : Lfts 3) (out out' : RefT (List ℕ))
         → of-written.clauses 𝓤 H A mem run κs (s, (t, (out, tt))) .ensures tt r (s', (t', (out', tt)))
-        ≡ ⌜ WroteOut edition1 (now s) (now t) (asked Written [] (now out)) r (now out') ⌝
+        ≡ ⌜ WroteOut (editionIn (now s)) (now s) (now t) (asked Written [] (now out)) r (now out') ⌝
     written-says κs out out' = refl
 
     written-asks : (κs : Lfts 3) (out : RefT (List ℕ)) → of-written.clauses 𝓤 H A mem run κs (s, (t, (out, tt))) .requires tt ≡ ⊤ₛ
@@ -106,7 +133,7 @@ module _ {M : Type 1} (𝓤 : URA M) (H : Heap 𝓤) (A : Atoms 𝓤) (mem : Mem
 
     at-least-says : (κs : Lfts 3) (m : ℕ) (x x' : RefT ℕ)
         → of-at-least.clauses 𝓤 H A mem run κs (s, (t, (m, (x, tt)))) .ensures tt r (s', (t', (m, (x', tt))))
-        ≡ ⌜ OneFigure edition1 (now s) (now t) (asked (AtLeast m) [] []) r (now x) (now x') ⌝
+        ≡ ⌜ OneFigure (editionIn (now s)) (now s) (now t) (asked (AtLeast m) [] []) r (now x) (now x') ⌝
     at-least-says κs m x x' = refl
 
     at-least-asks : (κs : Lfts 3) (m : ℕ) (x : RefT ℕ) → of-at-least.clauses 𝓤 H A mem run κs (s, (t, (m, (x, tt)))) .requires tt ≡ ⊤ₛ
@@ -114,8 +141,27 @@ module _ {M : Type 1} (𝓤 : URA M) (H : Heap 𝓤) (A : Atoms 𝓤) (mem : Mem
 
     list-says : (κs : Lfts 3) (out out' : RefT (List ℕ))
         → of-list.clauses 𝓤 H A mem run κs (s, (t, (out, tt))) .ensures tt r (s', (t', (out', tt)))
-        ≡ ⌜ WroteOut edition1 (now s) (now t) (asked ListWritten [] (now out)) r (now out') ⌝
+        ≡ ⌜ WroteOut (editionIn (now s)) (now s) (now t) (asked ListWritten [] (now out)) r (now out') ⌝
     list-says κs out out' = refl
 
     list-asks : (κs : Lfts 3) (out : RefT (List ℕ)) → of-list.clauses 𝓤 H A mem run κs (s, (t, (out, tt))) .requires tt ≡ ⊤ₛ
     list-asks κs out = refl
+
+-- what a history's calls are said by (`Exported`, `editionFor`) are these contracts
+module _ (e : Edition) (s t s' t' : List ℕ) (r : ℤ) where
+  load-exported : (list : List ℕ) → Exported (editionFor e Load s) s t (asked Load list []) (coded r) s' t' ≡ Did (editionIn s) s t (asked Load list []) r s' t'
+  load-exported list = refl
+
+  change-exported : (i w : ℕ) → Exported (editionFor e (Change i w) s) s t (asked (Change i w) [] []) (coded r) s' t' ≡ Did e s t (asked (Change i w) [] []) r s' t'
+  change-exported i w = refl
+
+  add-exported : (f d w : ℕ) → Exported (editionFor e (Add f d w) s) s t (asked (Add f d w) [] []) (coded r) s' t' ≡ Did e s t (asked (Add f d w) [] []) r s' t'
+  add-exported f d w = refl
+
+  propose-exported : (plan : List ℕ) → Exported (editionFor e Propose s) s t (asked Propose plan []) (coded r) s' t' ≡ Did (editionIn s) s t (asked Propose plan []) r s' t'
+  propose-exported plan = refl
+
+  list-exported : (buffer out : List ℕ)
+      → Exported (editionFor e ListWritten s) s t (asked ListWritten [] buffer) (written r out) s' t'
+      ≡ (WroteOut (editionIn s) s t (asked ListWritten [] buffer) r out × (s' ≡ s) × (t' ≡ t))
+  list-exported buffer out = refl

@@ -1,24 +1,27 @@
--- The contracts of the exported functions of the store say what `Did`, `Figures`, `OneFigure`, `Differs`, `WroteOut` and `FreshCode` say of edition 1 (Contracts); so any calls of them,
--- from what `sulgheti_fresh` writes where it answers 0 and a table of any bytes, are a history of document 01, and each code, figure and buffer that they give is that of the
--- history's reply. What is written out of a list, and loaded, is the same list. The laws are over the edition. Assumes nothing.
+-- The contracts of the exported functions of the store say what `Did`, `Figures`, `OneFigure`, `Differs`, `WroteOut` and `FreshCode` say of the edition that a store's length tells, or that the
+-- function is for (Contracts); so any calls of them, from what `sulgheti_fresh` or `sulgheti_fresh2` writes where it answers 0 and a table of any bytes, are a history of document 01, and each
+-- code, figure and buffer that they give is that of the history's reply. What is written out of a list, and loaded, is the same list. The laws are over the edition. Assumes nothing.
 use Prim.Native.Nat.{ℕ, zero, suc}
 use mathlib.Core.Bool.{Bool, true, false, cond}
 use mathlib.Core.List.{List, [], _∷_}
 use mathlib.Core.Option.{Option, none, some}
 use mathlib.Core.Path.{_≡_, refl, sym, ap, ap₂, _∙_, subst}
+use mathlib.Core.Logic.{inl, inr}
 use native.Mathlib.Omega.{arith}
+use borrow.Author.Tests.{eqb-true, ne-eqb}
 use lib.Dec.{eqb}
 use lib.IntN.{ℤ, pos, negℤ}
-use lib.ListN.{take}
+use lib.ListN.{length, take}
 use Rattle.records.specs.declared.Edition.{Edition}
 use Rattle.records.specs.Bytes.{Bytes}
 use Rattle.records.specs.Outcome.{passed}
-use Rattle.records.specs.Format.{edition1, readList}
+use Rattle.records.specs.Format.{edition1, edition2, readList}
 use Rattle.records.specs.Write.{Marked}
-use Rattle.records.proofs.Samples.{marked1}
+use Rattle.records.proofs.Samples.{marked1, marked2}
 use Rattle.held_state.specs.declared.Store.{Store}
 use Rattle.held_state.specs.Held.{State, on}
-use Rattle.store.specs.declared.Request.the-variants.{Load, Share, Depot, Difference, AtLeast, ListWritten}
+use Rattle.store.specs.declared.Request.{Request}
+use Rattle.store.specs.declared.Request.the-variants.{Load, Change, Add, Propose, Share, Depot, Difference, Written, AtLeast, ListWritten}
 use Rattle.store.specs.Calls.{Call, Reply, Told, wrote}
 use Rattle.store.specs.State.{Done, modelOf, effectOf, refusal, settle, step}
 use Rattle.store.specs.Trace.{Run, start, then, Steps, History, AllBytes, Exact, ListRoundTrip, SameFigures}
@@ -27,9 +30,49 @@ use Rattle.layout.specs.Layout.{storeSize, sitesIn}
 use Rattle.layout.proofs.RoundTrip.{length-sites}
 use Rattle.lent.specs.Lent.{stateIn, isOf, call, Freshened}
 use Rattle.lent.proofs.Contracts.{laid-reply, fresh-sized, bytes-list}
-use Rattle.codes.specs.Codes.{rowCode, noStoreCode, doneCode, lengthCode, firstOf, secondOf, differenceOf, answerOf, Moved, WroteOut, FreshCode}
+use Rattle.codes.specs.Codes.{editionIn, rowCode, noStoreCode, doneCode, lengthCode, firstOf, secondOf, differenceOf, answerOf, Moved, Did, WroteOut, FreshCode}
 use Rattle.codes.proofs.DeskCodes.{other-code}
-use Rattle.desk.specs.Exports.{Given, coded, figures, differs, written, oneFigure, Exported, Answers, AllAnswer, Calls, none, next, asked, question, SameGiven, ListGiven}
+use Rattle.desk.specs.Exports.{Given, coded, figures, differs, written, oneFigure, Exported, Answers, AllAnswer, Offered, editionFor, Calls, none, next, other, other-start, asked, question, SameGiven, ListGiven}
+
+-- ---- the edition of a store
+
+-- bytes that have the length of a store of an edition are told as of that edition
+own-edition : {e : Edition} (s : List ℕ) → Offered e → isOf e s ≡ true → editionIn s ≡ e
+own-edition s (inl k) long =
+    let h : length s ≡ 2584 = eqb-true (length s) 2584 (subst (λ (d : Edition). isOf d s ≡ true) k long) in
+    ap (λ (b : Bool). cond b edition2 edition1) (ne-eqb (length s) 4632 (λ j. omega (arith, h, j))) ∙ sym k
+own-edition s (inr k) long = ap (λ (b : Bool). cond b edition2 edition1) (subst (λ (d : Edition). isOf d s ≡ true) k long) ∙ sym k
+
+-- and so every function serves it by that edition
+serves : {e : Edition} (s : List ℕ) → editionIn s ≡ e → (q : Request) → editionFor e q s ≡ e
+serves s k Load = k
+serves s k (Change i w) = refl
+serves s k (Add f d w) = refl
+serves s k Propose = k
+serves s k (Share i) = k
+serves s k (Depot d) = k
+serves s k (Difference a b) = k
+serves s k Written = k
+serves s k (AtLeast m) = k
+serves s k ListWritten = k
+
+-- what keeps its length keeps its edition
+same-edition : (s s' : List ℕ) → length s' ≡ length s → editionIn s' ≡ editionIn s
+same-edition s s' h = ap (λ (n : ℕ). cond (eqb n (storeSize 8)) edition2 edition1) h
+
+marked : {e : Edition} → Offered e → Marked e
+marked (inl k) = subst Marked (sym k) marked1
+marked (inr k) = subst Marked (sym k) marked2
+
+-- every store is told as of one of the two
+offered : (s : List ℕ) → Offered (editionIn s)
+offered s = by (isOf edition2 s)
+  where
+    by : (b : Bool) → Offered (cond b edition2 edition1)
+    by true = inr refl
+    by false = inl refl
+
+-- ---- one call
 
 module _ (e : Edition) (s t s' t' : List ℕ) (c : Call) where
   as-kept : s' ≡ s → t' ≡ t → Moved e s t c s t → Moved e s t c s' t'
@@ -56,20 +99,49 @@ module _ (e : Edition) (s t s' t' : List ℕ) (c : Call) where
     stays-sized : Moved e s t c s' t' → isOf e s' ≡ true
     stays-sized m = ap (λ (n : ℕ). eqb n (storeSize (e .share))) (m .long) ∙ long
 
-run : {e : Edition} {s t s' t' : List ℕ} {cs : List Call} {gs : List Given} → isOf e s ≡ true → Calls e s t cs gs s' t'
-    → (rs : List Reply) × Run Steps (stateIn e s t) cs rs (stateIn e s' t') × AllAnswer gs rs
+-- ---- a store of the other edition
+
+-- bytes are a store of one edition only
+pub one-edition : (s : List ℕ) → (isOf edition1 s ≡ true → isOf edition2 s ≡ false) × (isOf edition2 s ≡ true → isOf edition1 s ≡ false)
+one-edition s = (
+  (λ h. let k = eqb-true (length s) 2584 h in ne-eqb (length s) 4632 (λ j. omega (arith, k, j))),
+  (λ h. let k = eqb-true (length s) 4632 h in ne-eqb (length s) 2584 (λ j. omega (arith, k, j))),
+)
+
+-- a function for one edition answers no row at a store of the other, and leaves it and its table as they were
+pub other-edition : {e : Edition} {s t s' t' : List ℕ} {c : Call} {r : ℤ} → isOf e s ≡ false → Did e s t c r s' t' → (r ≡ noStoreCode) × (s' ≡ s) × (t' ≡ t)
+other-edition h d = (rw h at (d .code), rw h at (d .moved .store), rw h at (d .moved .table))
+
+pub other-fresh : {e : Edition} {s s' : List ℕ} {r : ℤ} → isOf e s ≡ false → FreshCode e s r s' → (r ≡ noStoreCode) × (s' ≡ s)
+other-fresh h f = (rw h at (f .code), rw h at (f .store))
+
+-- ---- calls
+
+run : {e : Edition} {s t s' t' : List ℕ} {cs : List Call} {gs : List Given} → Offered e → isOf e s ≡ true → Calls e s t cs gs s' t'
+    → (rs : List Reply) × Run Steps (stateIn e s t) cs rs (stateIn e s' t') × AllAnswer gs rs × (isOf e s' ≡ true)
 unfolding AllAnswer
-run long none = ([], start, tt)
-run {e} {s} {t} long (next {s₁ = s₁} {t₁ = t₁} {c = c} {g = g} x calls) =
+run o long none = ([], start, tt, long)
+run {e} {s} {t} o long (next {s₁ = s₁} {t₁ = t₁} {c = c} {g = g} y calls) =
+    let x : Exported e s t c g s₁ t₁ = subst (λ (d : Edition). Exported d s t c g s₁ t₁) (serves s (own-edition s o long) (c .request)) y in
     let m = moved e s t s₁ t₁ c g x in
-    let (rs, steps, all) = run (stays-sized e s t s₁ t₁ c long m) calls in
-    (call e s t c .reply ∷ rs, then (is-step e s t s₁ t₁ c long m) steps, (answers e s t s₁ t₁ c long g x, all))
+    let (rs, steps, all, last) = run o (stays-sized e s t s₁ t₁ c long m) calls in
+    (call e s t c .reply ∷ rs, then (is-step e s t s₁ t₁ c long m) steps, (answers e s t s₁ t₁ c long g x, all), last)
+run {e} {s' = s'} {t'} {cs} o long (other h x calls) =
+    let (code, store, table) = other-edition h x in
+    let (rs, steps, all, last) = run o (subst (λ (z : List ℕ). isOf e z ≡ true) (sym store) long) calls in
+    (rs, subst (λ (z : State). Run Steps z cs rs (stateIn e s' t')) (ap₂ (λ (a b : List ℕ). stateIn e a b) store table) steps, all, last)
+run {e} {t = t} {s'} {t'} {cs} o long (other-start h x calls) =
+    let (code, store) = other-fresh h x in
+    let (rs, steps, all, last) = run o (subst (λ (z : List ℕ). isOf e z ≡ true) (sym store) long) calls in
+    (rs, subst (λ (z : State). Run Steps z cs rs (stateIn e s' t')) (ap (λ (a : List ℕ). stateIn e a t) store) steps, all, last)
 
 -- every input is bytes: the contracts say so
 inputs : {e : Edition} {s t s' t' : List ℕ} {cs : List Call} {gs : List Given} → Calls e s t cs gs s' t' → AllBytes cs
 unfolding AllBytes
 inputs none = tt
-inputs {e} {s} {t} (next {s₁ = s₁} {t₁ = t₁} {c = c} {g = g} x calls) = (moved e s t s₁ t₁ c g x .bytes, inputs calls)
+inputs {e} {s} {t} (next {s₁ = s₁} {t₁ = t₁} {c = c} {g = g} x calls) = (moved (editionFor e (c .request) s) s t s₁ t₁ c g x .bytes, inputs calls)
+inputs (other h x calls) = inputs calls
+inputs (other-start h x calls) = inputs calls
 
 -- a row's code is neither 0 nor a length
 row-not-length : (m n : ℕ) → pos m ≡ rowCode n → ⊥
@@ -90,16 +162,20 @@ done-fresh {e} {s₀} f =
     let long = length-there 0 (pos 0) (isOf e s₀) (f .code) in
     record { is = rw long at (f .store); reads = f .reads long }
 
-module _ {e : Edition} {s₀ s t s' t' : List ℕ} {cs : List Call} {gs : List Given} (f : FreshCode e s₀ (pos 0) s) (calls : Calls e s t cs gs s' t') where
-  pub calls-history : (rs : List Reply) × History e (sitesIn (e .litres) t) cs rs (stateIn e s' t') × AllAnswer gs rs
+module _ {e : Edition} {s₀ s t s' t' : List ℕ} {cs : List Call} {gs : List Given} (o : Offered e) (f : FreshCode e s₀ (pos 0) s) (calls : Calls e s t cs gs s' t') where
+  pub calls-history : (rs : List Reply) × History e (sitesIn (e .litres) t) cs rs (stateIn e s' t') × AllAnswer gs rs × (isOf e s' ≡ true)
   calls-history =
       let g = done-fresh f in
-      let (rs, steps, all) = run (fresh-sized g) calls in
-      (rs, subst (λ (z : State). Run Steps z cs rs (stateIn e s' t')) (ap (λ (x : Store). on e x (sitesIn (e .litres) t)) (g .reads)) steps, all)
+      let (rs, steps, all, last) = run o (fresh-sized g) calls in
+      (rs, subst (λ (z : State). Run Steps z cs rs (stateIn e s' t')) (ap (λ (x : Store). on e x (sitesIn (e .litres) t)) (g .reads)) steps, all, last)
 
   -- Demand 3 of these calls: what they give is what the model replies, in numbers.
-  pub calls-exact : Marked e → (rs : List Reply) × Exact e (sitesIn (e .litres) t) cs rs (stateIn e s' t') × AllAnswer gs rs
-  calls-exact m = let (rs, h, all) = calls-history in (rs, exact m h (inputs calls), all)
+  pub calls-exact : (rs : List Reply) × Exact e (sitesIn (e .litres) t) cs rs (stateIn e s' t') × AllAnswer gs rs
+  calls-exact = let (rs, h, all, last) = calls-history in (rs, exact (marked o) h (inputs calls), all)
+
+  -- the store's edition is still told by its length
+  still : editionIn s' ≡ e
+  still = let (rs, h, all, last) = calls-history in own-edition s' o last
 
 -- ---- two stores that hold the same list
 
@@ -130,57 +206,68 @@ module _ (e : Edition) (s t : List ℕ) (c : Call) where
     given of y h = (rw long at h) ∙ ap of answered
 
 -- the figures of the same questions
-module _ {e : Edition} {s₁ t₁ s₂ t₂ : List ℕ} (h : SameFigures (stateIn e s₁ t₁) (stateIn e s₂ t₂)) where
-  same-given : SameGiven e s₁ t₁ s₂ t₂
+module _ (s₁ t₁ s₂ t₂ : List ℕ) (h : SameFigures (stateIn (editionIn s₁) s₁ t₁) (stateIn (editionIn s₂) s₂ t₂)) where
+  abbrev e₁ : Edition
+  e₁ = editionIn s₁
+
+  abbrev e₂ : Edition
+  e₂ = editionIn s₂
+
+  same-given : SameGiven s₁ t₁ s₂ t₂
   same-given =
       record {
         site = λ i x₁ y₁ x₁' y₁' x₂ y₂ x₂' y₂' f g.
             let q = question (Share i) in
-            let same = h .site q q i _ _ _ _ _ _ _ _ refl refl (steps e s₁ t₁ q (f .kept) (f .code)) (steps e s₂ t₂ q (g .kept) (g .code))
-            (answered e s₁ t₁ q (f .kept) (f .code)) (answered e s₂ t₂ q (g .kept) (g .code)) in
-            given e s₁ t₁ q (f .kept) (f .code) (λ (a : Told). secondOf a y₁) y₁ (f .second)
+            let same = h .site q q i _ _ _ _ _ _ _ _ refl refl (steps e₁ s₁ t₁ q (f .kept) (f .code)) (steps e₂ s₂ t₂ q (g .kept) (g .code))
+            (answered e₁ s₁ t₁ q (f .kept) (f .code)) (answered e₂ s₂ t₂ q (g .kept) (g .code)) in
+            given e₁ s₁ t₁ q (f .kept) (f .code) (λ (a : Told). secondOf a y₁) y₁ (f .second)
             ∙ same
-            ∙ sym (given e s₂ t₂ q (g .kept) (g .code) (λ (a : Told). secondOf a y₂) y₂ (g .second));
+            ∙ sym (given e₂ s₂ t₂ q (g .kept) (g .code) (λ (a : Told). secondOf a y₂) y₂ (g .second));
         depot = λ d x₁ y₁ x₁' y₁' x₂ y₂ x₂' y₂' f g.
             let q = question (Depot d) in
-            let same = h .depot q q d _ _ _ _ _ _ _ _ refl refl (steps e s₁ t₁ q (f .kept) (f .code)) (steps e s₂ t₂ q (g .kept) (g .code))
-            (answered e s₁ t₁ q (f .kept) (f .code)) (answered e s₂ t₂ q (g .kept) (g .code)) in (
-              given e s₁ t₁ q (f .kept) (f .code) (λ (a : Told). firstOf a x₁) x₁ (f .first)
+            let same = h .depot q q d _ _ _ _ _ _ _ _ refl refl (steps e₁ s₁ t₁ q (f .kept) (f .code)) (steps e₂ s₂ t₂ q (g .kept) (g .code))
+            (answered e₁ s₁ t₁ q (f .kept) (f .code)) (answered e₂ s₂ t₂ q (g .kept) (g .code)) in (
+              given e₁ s₁ t₁ q (f .kept) (f .code) (λ (a : Told). firstOf a x₁) x₁ (f .first)
                   ∙ same .0
-                  ∙ sym (given e s₂ t₂ q (g .kept) (g .code) (λ (a : Told). firstOf a x₂) x₂ (g .first)),
-              given e s₁ t₁ q (f .kept) (f .code) (λ (a : Told). secondOf a y₁) y₁ (f .second)
+                  ∙ sym (given e₂ s₂ t₂ q (g .kept) (g .code) (λ (a : Told). firstOf a x₂) x₂ (g .first)),
+              given e₁ s₁ t₁ q (f .kept) (f .code) (λ (a : Told). secondOf a y₁) y₁ (f .second)
                   ∙ same .1
-                  ∙ sym (given e s₂ t₂ q (g .kept) (g .code) (λ (a : Told). secondOf a y₂) y₂ (g .second)),
+                  ∙ sym (given e₂ s₂ t₂ q (g .kept) (g .code) (λ (a : Told). secondOf a y₂) y₂ (g .second)),
             );
         differences = λ a b x₁ y₁ x₁' y₁' x₂ y₂ x₂' y₂' f g.
             let q = question (Difference a b) in
-            let same = h .differences q q a b _ _ _ _ _ _ _ _ refl refl (steps e s₁ t₁ q (f .kept) (f .code)) (steps e s₂ t₂ q (g .kept) (g .code))
-            (answered e s₁ t₁ q (f .kept) (f .code)) (answered e s₂ t₂ q (g .kept) (g .code)) in (
-              given e s₁ t₁ q (f .kept) (f .code) (λ (a : Told). differenceOf a x₁) x₁ (f .difference)
+            let same = h .differences q q a b _ _ _ _ _ _ _ _ refl refl (steps e₁ s₁ t₁ q (f .kept) (f .code)) (steps e₂ s₂ t₂ q (g .kept) (g .code))
+            (answered e₁ s₁ t₁ q (f .kept) (f .code)) (answered e₂ s₂ t₂ q (g .kept) (g .code)) in (
+              given e₁ s₁ t₁ q (f .kept) (f .code) (λ (a : Told). differenceOf a x₁) x₁ (f .difference)
                   ∙ same .0
-                  ∙ sym (given e s₂ t₂ q (g .kept) (g .code) (λ (a : Told). differenceOf a x₂) x₂ (g .difference)),
-              given e s₁ t₁ q (f .kept) (f .code) (λ (a : Told). secondOf a y₁) y₁ (f .divisor)
+                  ∙ sym (given e₂ s₂ t₂ q (g .kept) (g .code) (λ (a : Told). differenceOf a x₂) x₂ (g .difference)),
+              given e₁ s₁ t₁ q (f .kept) (f .code) (λ (a : Told). secondOf a y₁) y₁ (f .divisor)
                   ∙ same .1
-                  ∙ sym (given e s₂ t₂ q (g .kept) (g .code) (λ (a : Told). secondOf a y₂) y₂ (g .divisor)),
+                  ∙ sym (given e₂ s₂ t₂ q (g .kept) (g .code) (λ (a : Told). secondOf a y₂) y₂ (g .divisor)),
             );
         at-least = λ m x₁ x₁' x₂ x₂' f g.
             let q = question (AtLeast m) in
-            let same = h .at-least q q m _ _ _ _ _ _ refl refl (steps e s₁ t₁ q (f .kept) (f .code)) (steps e s₂ t₂ q (g .kept) (g .code))
-            (answered e s₁ t₁ q (f .kept) (f .code)) (answered e s₂ t₂ q (g .kept) (g .code)) in
-            given e s₁ t₁ q (f .kept) (f .code) (λ (a : Told). firstOf a x₁) x₁ (f .figure)
+            let same = h .at-least q q m _ _ _ _ _ _ refl refl (steps e₁ s₁ t₁ q (f .kept) (f .code)) (steps e₂ s₂ t₂ q (g .kept) (g .code))
+            (answered e₁ s₁ t₁ q (f .kept) (f .code)) (answered e₂ s₂ t₂ q (g .kept) (g .code)) in
+            given e₁ s₁ t₁ q (f .kept) (f .code) (λ (a : Told). firstOf a x₁) x₁ (f .figure)
             ∙ same
-            ∙ sym (given e s₂ t₂ q (g .kept) (g .code) (λ (a : Told). firstOf a x₂) x₂ (g .figure));
+            ∙ sym (given e₂ s₂ t₂ q (g .kept) (g .code) (λ (a : Told). firstOf a x₂) x₂ (g .figure));
       }
 
--- Two stores that hold the same list after such calls: each W, q, w × q, difference and set of depots that both answer, and that the functions give for both, is the same.
-pub calls-same : {e : Edition} {s₀ s t s' t' u₀ u v u' v' : List ℕ} {cs ds : List Call} {gs hs : List Given}
-    → Marked e → FreshCode e s₀ (pos 0) s → Calls e s t cs gs s' t' → FreshCode e u₀ (pos 0) u → Calls e u v ds hs u' v'
-    → modelOf (stateIn e s' t') .list ≡ modelOf (stateIn e u' v') .list → SameFigures (stateIn e s' t') (stateIn e u' v') × SameGiven e s' t' u' v'
-calls-same m f x g y l =
-    let (rs, e, all) = calls-exact f x m in
-    let (ts, d, each) = calls-exact g y m in
-    let h = same-figures e d l in
-    (h, same-given h)
+-- Two stores that hold the same list after such calls, each of either edition: each W, q, w × q, difference and set of depots that both answer, and that the functions give
+-- for both, is the same.
+pub calls-same : {e d : Edition} {s₀ s t s' t' u₀ u v u' v' : List ℕ} {cs ds : List Call} {gs hs : List Given}
+    → Offered e → FreshCode e s₀ (pos 0) s → Calls e s t cs gs s' t' → Offered d → FreshCode d u₀ (pos 0) u → Calls d u v ds hs u' v'
+    → modelOf (stateIn e s' t') .list ≡ modelOf (stateIn d u' v') .list → SameFigures (stateIn e s' t') (stateIn d u' v') × SameGiven s' t' u' v'
+calls-same {e} {s' = s'} {t'} {u' = u'} {v'} o f x p g y l =
+    let (rs, a, all) = calls-exact o f x in
+    let (ts, b, each) = calls-exact p g y in
+    let h = same-figures a b l in (
+      h,
+      same-given s' t' u' v'
+          (subst (λ (k : Edition). SameFigures (stateIn k s' t') (stateIn (editionIn u') u' v')) (sym (still o f x))
+          (subst (λ (k : Edition). SameFigures (stateIn e s' t') (stateIn k u' v')) (sym (still p g y)) h)),
+    )
 
 -- ---- the list written out
 
@@ -208,36 +295,42 @@ module _ {e : Edition} {s t buffer out : List ℕ} {n : ℕ} (w : WroteOut e s t
   list-out : out ≡ call e s t listCall .reply .buffer
   list-out = rw list-long at (w .buffer)
 
-list-given : {e : Edition} {s t : List ℕ} → ListRoundTrip (stateIn e s t) → ListGiven e s t
-list-given {e} {s} {t} trip =
-    record {
-      reads = λ buffer out n places w room.
-          subst (λ (z : List ℕ). readList e places (take n z) ≡ passed (modelOf (stateIn e s t) .list)) (sym (list-out w))
-          (trip .reads (listCall w) _ _ n places refl (list-steps w) (list-wrote w) room);
-      loads = λ buffer out u v u' v' n r w long room d.
-          let c = asked Load (take n out) [] in
-          let k = trip .loads (listCall w) c _ (call e u v c .reply) _ (stateIn e u v) (stateIn e u' v') n refl (list-steps w) (list-wrote w) refl (rw length-sites room) refl
-          (ap (take n) (list-out w)) (is-step e u v u' v' c long (d .moved)) in
-          ((rw long at (d .code)) ∙ ap doneCode (k .0), k .1);
-      again = λ list s' t' buffer out n d w.
-          let c = asked Load list [] in
-          let k = trip .again c (listCall w) _ _ (stateIn e s' t') _ n refl (d .moved .bytes) (steps e s t c (d .moved) (d .code)) (answered e s t c (d .moved) (d .code)) refl
-          (list-steps w) (list-wrote w) in
-          (k .0, list-out w ∙ k .1);
-    }
+module _ (s t : List ℕ) (trip : ListRoundTrip (stateIn (editionIn s) s t)) where
+  abbrev e : Edition
+  e = editionIn s
 
--- ---- the exported functions: edition 1
+  list-given : ListGiven s t
+  list-given =
+      record {
+        reads = λ buffer out n places w room.
+            subst (λ (z : List ℕ). readList e places (take n z) ≡ passed (modelOf (stateIn e s t) .list)) (sym (list-out w))
+            (trip .reads (listCall w) _ _ n places refl (list-steps w) (list-wrote w) room);
+        loads = λ buffer out u v u' v' n r w same long room did.
+            let c = asked Load (take n out) [] in
+            let sized : isOf e u ≡ true = subst (λ (k : Edition). isOf k u ≡ true) same long in
+            let d : Did e u v c r u' v' = subst (λ (k : Edition). Did k u v c r u' v') same did in
+            let k = trip .loads (listCall w) c _ (call e u v c .reply) _ (stateIn e u v) (stateIn e u' v') n refl (list-steps w) (list-wrote w) refl (rw length-sites room) refl
+            (ap (take n) (list-out w)) (is-step e u v u' v' c sized (d .moved)) in
+            ((rw sized at (d .code)) ∙ ap doneCode (k .0), ap (λ (j : Edition). modelOf (stateIn j u' v') .list) same ∙ k .1);
+        again = λ list s' t' buffer out n d wrote.
+            let c = asked Load list [] in
+            let w : WroteOut e s' t' (asked ListWritten [] buffer) (pos n) out =
+            subst (λ (k : Edition). WroteOut k s' t' (asked ListWritten [] buffer) (pos n) out) (same-edition s s' (d .moved .long)) wrote in
+            let k = trip .again c (listCall w) _ _ (stateIn e s' t') _ n refl (d .moved .bytes) (steps e s t c (d .moved) (d .code)) (answered e s t c (d .moved) (d .code)) refl
+            (list-steps w) (list-wrote w) in
+            (k .0, list-out w ∙ k .1);
+      }
+
+-- Document 02, b, at any store and any table of bytes.
+pub exports-list : (s t : List ℕ) → Bytes t → ListGiven s t
+exports-list s t b = list-given s t (bytes-list (editionIn s) (marked (offered s)) s t b)
+
+-- ---- the exported functions: edition 1 and edition 2
 
 pub exports-exact : {s₀ s t s' t' : List ℕ} {cs : List Call} {gs : List Given} → FreshCode edition1 s₀ (pos 0) s → Calls edition1 s t cs gs s' t'
     → (rs : List Reply) × Exact edition1 (sitesIn 2 t) cs rs (stateIn edition1 s' t') × AllAnswer gs rs
-exports-exact f calls = calls-exact f calls marked1
+exports-exact f calls = calls-exact (inl refl) f calls
 
-pub calls-same-given : {s₀ s t s' t' u₀ u v u' v' : List ℕ} {cs ds : List Call} {gs hs : List Given}
-    → FreshCode edition1 s₀ (pos 0) s → Calls edition1 s t cs gs s' t' → FreshCode edition1 u₀ (pos 0) u → Calls edition1 u v ds hs u' v'
-    → modelOf (stateIn edition1 s' t') .list ≡ modelOf (stateIn edition1 u' v') .list
-    → SameFigures (stateIn edition1 s' t') (stateIn edition1 u' v') × SameGiven edition1 s' t' u' v'
-calls-same-given f x g y l = calls-same marked1 f x g y l
-
--- Document 02, b, at any store and any table of bytes.
-pub exports-list : (s t : List ℕ) → Bytes t → ListGiven edition1 s t
-exports-list s t b = list-given (bytes-list edition1 marked1 s t b)
+pub exports-exact2 : {s₀ s t s' t' : List ℕ} {cs : List Call} {gs : List Given} → FreshCode edition2 s₀ (pos 0) s → Calls edition2 s t cs gs s' t'
+    → (rs : List Reply) × Exact edition2 (sitesIn 4 t) cs rs (stateIn edition2 s' t') × AllAnswer gs rs
+exports-exact2 f calls = calls-exact (inr refl) f calls

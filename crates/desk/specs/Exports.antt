@@ -1,22 +1,23 @@
 -- Calls of the exported functions of the store, one after another: what each gives its caller, and how that is the reply of a call.
 use Prim.Native.Nat.{ℕ, _≤_}
-use mathlib.Core.Bool.{true}
+use mathlib.Core.Bool.{true, false}
 use mathlib.Core.List.{List, [], _∷_}
 use mathlib.Core.Path.{_≡_}
+use mathlib.Core.Logic.{_⊎_}
 use lib.IntN.{ℤ, pos}
 use lib.ListN.{length, take}
 use Rattle.records.specs.declared.Edition.{Edition}
 use Rattle.records.specs.Outcome.{passed}
-use Rattle.records.specs.Format.{readList}
+use Rattle.records.specs.Format.{edition1, edition2, readList}
 use Rattle.records.specs.Write.{onto}
 use Rattle.store.specs.declared.Request.{Request}
-use Rattle.store.specs.declared.Request.the-variants.{Load, Share, Depot, Difference, AtLeast, ListWritten}
+use Rattle.store.specs.declared.Request.the-variants.{Load, Change, Add, Propose, Share, Depot, Difference, Written, AtLeast, ListWritten}
 use Rattle.store.specs.Calls.{Call, Reply}
 use Rattle.store.specs.Model.{count}
 use Rattle.store.specs.State.{modelOf}
 use Rattle.layout.specs.Layout.{placesIn}
 use Rattle.lent.specs.Lent.{stateIn, isOf}
-use Rattle.codes.specs.Codes.{doneCode, lengthCode, firstOf, secondOf, differenceOf, Did, Figures, OneFigure, Differs, WroteOut}
+use Rattle.codes.specs.Codes.{editionIn, doneCode, lengthCode, firstOf, secondOf, differenceOf, Did, Figures, OneFigure, Differs, WroteOut, FreshCode}
 
 -- What a function gives: its code; the figures behind its pointers, before the call and after it; the buffer after it.
 pub data Given : Type 0 where
@@ -49,11 +50,34 @@ AllAnswer [] (r ∷ rs) = ⊥
 AllAnswer (g ∷ gs) [] = ⊥
 AllAnswer (g ∷ gs) (r ∷ rs) = Answers g r × AllAnswer gs rs
 
--- "Each call gets the desk and the table as the one before left them, and nobody else writes either meanwhile."
+-- the editions of which there are stores
+abbrev pub Offered : Edition → Type 0
+Offered e = (e ≡ edition1) ⊎ (e ≡ edition2)
+
+-- The edition that the contract of a function names: the store's, told by its length. A change and an added site have a function for each edition, since their litres
+-- are "a 16-bit figure" or "a 32-bit figure"; e is that of the function.
+abbrev pub editionFor : Edition → Request → List ℕ → Edition
+editionFor e Load s = editionIn s
+editionFor e (Change i w) s = e
+editionFor e (Add f d w) s = e
+editionFor e Propose s = editionIn s
+editionFor e (Share i) s = editionIn s
+editionFor e (Depot d) s = editionIn s
+editionFor e (Difference a b) s = editionIn s
+editionFor e Written s = editionIn s
+editionFor e (AtLeast m) s = editionIn s
+editionFor e ListWritten s = editionIn s
+
+-- "Each call gets the desk and the table as the one before left them, and nobody else writes either meanwhile." Changes and added sites of the history are those of edition e
+-- (`next`); a change, an added site and a fresh store of another edition than the store's may come between, and are no call of the history (`other`, `other-start`).
 pub data Calls (e : Edition) : List ℕ → List ℕ → List Call → List Given → List ℕ → List ℕ → Type 0 where
   none : {s t : List ℕ} → Calls e s t [] [] s t
   next : {s t s₁ t₁ s' t' : List ℕ} {c : Call} {cs : List Call} {g : Given} {gs : List Given}
-      → Exported e s t c g s₁ t₁ → Calls e s₁ t₁ cs gs s' t' → Calls e s t (c ∷ cs) (g ∷ gs) s' t'
+      → Exported (editionFor e (c .request) s) s t c g s₁ t₁ → Calls e s₁ t₁ cs gs s' t' → Calls e s t (c ∷ cs) (g ∷ gs) s' t'
+  other : {d : Edition} {s t s₁ t₁ s' t' : List ℕ} {c : Call} {r : ℤ} {cs : List Call} {gs : List Given}
+      → isOf d s ≡ false → Did d s t c r s₁ t₁ → Calls e s₁ t₁ cs gs s' t' → Calls e s t cs gs s' t'
+  other-start : {d : Edition} {s t s₁ s' t' : List ℕ} {r : ℤ} {cs : List Call} {gs : List Given}
+      → isOf d s ≡ false → FreshCode d s r s₁ → Calls e s₁ t cs gs s' t' → Calls e s t cs gs s' t'
 
 -- a call for a request with its input and buffer; a question for figures, which is given neither
 abbrev pub asked : Request → List ℕ → List ℕ → Call
@@ -63,27 +87,29 @@ abbrev pub question : Request → Call
 question q = asked q [] []
 
 -- "Two desks hold the same list if their books' lists are equal": each W, q, w × q, difference and set of depots that the same question
--- then gets of both, with the code 0, is the same; s is that of each one's plan.
-pub record SameGiven (e : Edition) (s₁ t₁ s₂ t₂ : List ℕ) : Type 0 where
-  pub site : (i : ℕ) (x₁ y₁ x₁' y₁' x₂ y₂ x₂' y₂' : ℕ) → Figures e s₁ t₁ (question (Share i)) (pos 0) x₁ y₁ x₁' y₁'
-      → Figures e s₂ t₂ (question (Share i)) (pos 0) x₂ y₂ x₂' y₂' → y₁' ≡ y₂'
-  pub depot : (d : ℕ) (x₁ y₁ x₁' y₁' x₂ y₂ x₂' y₂' : ℕ) → Figures e s₁ t₁ (question (Depot d)) (pos 0) x₁ y₁ x₁' y₁'
-      → Figures e s₂ t₂ (question (Depot d)) (pos 0) x₂ y₂ x₂' y₂' → (x₁' ≡ x₂') × (y₁' ≡ y₂')
+-- then gets of both, with the code 0, is the same; s is that of each one's plan. The two may be of different editions.
+pub record SameGiven (s₁ t₁ s₂ t₂ : List ℕ) : Type 0 where
+  pub site : (i : ℕ) (x₁ y₁ x₁' y₁' x₂ y₂ x₂' y₂' : ℕ) → Figures (editionIn s₁) s₁ t₁ (question (Share i)) (pos 0) x₁ y₁ x₁' y₁'
+      → Figures (editionIn s₂) s₂ t₂ (question (Share i)) (pos 0) x₂ y₂ x₂' y₂' → y₁' ≡ y₂'
+  pub depot : (d : ℕ) (x₁ y₁ x₁' y₁' x₂ y₂ x₂' y₂' : ℕ) → Figures (editionIn s₁) s₁ t₁ (question (Depot d)) (pos 0) x₁ y₁ x₁' y₁'
+      → Figures (editionIn s₂) s₂ t₂ (question (Depot d)) (pos 0) x₂ y₂ x₂' y₂' → (x₁' ≡ x₂') × (y₁' ≡ y₂')
   pub differences : (a b : ℕ) (x₁ : ℤ) (y₁ : ℕ) (x₁' : ℤ) (y₁' : ℕ) (x₂ : ℤ) (y₂ : ℕ) (x₂' : ℤ) (y₂' : ℕ)
-      → Differs e s₁ t₁ (question (Difference a b)) (pos 0) x₁ y₁ x₁' y₁'
-      → Differs e s₂ t₂ (question (Difference a b)) (pos 0) x₂ y₂ x₂' y₂' → (x₁' ≡ x₂') × (y₁' ≡ y₂')
-  pub at-least : (m : ℕ) (x₁ x₁' x₂ x₂' : ℕ) → OneFigure e s₁ t₁ (question (AtLeast m)) (pos 0) x₁ x₁'
-      → OneFigure e s₂ t₂ (question (AtLeast m)) (pos 0) x₂ x₂' → x₁' ≡ x₂'
+      → Differs (editionIn s₁) s₁ t₁ (question (Difference a b)) (pos 0) x₁ y₁ x₁' y₁'
+      → Differs (editionIn s₂) s₂ t₂ (question (Difference a b)) (pos 0) x₂ y₂ x₂' y₂' → (x₁' ≡ x₂') × (y₁' ≡ y₂')
+  pub at-least : (m : ℕ) (x₁ x₁' x₂ x₂' : ℕ) → OneFigure (editionIn s₁) s₁ t₁ (question (AtLeast m)) (pos 0) x₁ x₁'
+      → OneFigure (editionIn s₂) s₂ t₂ (question (AtLeast m)) (pos 0) x₂ x₂' → x₁' ≡ x₂'
 
 -- Document 02, b, of what the functions give: of a list written out its length, and the buffer.
-pub record ListGiven (e : Edition) (s t : List ℕ) : Type 0 where
+pub record ListGiven (s t : List ℕ) : Type 0 where
   -- "Reading its output yields the same sites"
-  pub reads : (buffer out : List ℕ) (n places : ℕ) → WroteOut e s t (asked ListWritten [] buffer) (pos n) out → count (modelOf (stateIn e s t)) ≤ places
-      → readList e places (take n out) ≡ passed (modelOf (stateIn e s t) .list)
-  -- loaded into a store with room, a fresh one or any other, it leaves a model with an equal list
-  pub loads : (buffer out u v u' v' : List ℕ) (n : ℕ) (r : ℤ) → WroteOut e s t (asked ListWritten [] buffer) (pos n) out → isOf e u ≡ true
-      → count (modelOf (stateIn e s t)) ≤ placesIn (e .litres) v → Did e u v (asked Load (take n out) []) r u' v'
-      → (r ≡ pos 0) × (modelOf (stateIn e u' v') .list ≡ modelOf (stateIn e s t) .list)
+  pub reads : (buffer out : List ℕ) (n places : ℕ) → WroteOut (editionIn s) s t (asked ListWritten [] buffer) (pos n) out
+      → count (modelOf (stateIn (editionIn s) s t)) ≤ places
+      → readList (editionIn s) places (take n out) ≡ passed (modelOf (stateIn (editionIn s) s t) .list)
+  -- loaded into a store of the same edition with room, a fresh one or any other, it leaves a model with an equal list
+  pub loads : (buffer out u v u' v' : List ℕ) (n : ℕ) (r : ℤ) → WroteOut (editionIn s) s t (asked ListWritten [] buffer) (pos n) out
+      → editionIn u ≡ editionIn s → isOf (editionIn u) u ≡ true → count (modelOf (stateIn (editionIn s) s t)) ≤ placesIn (editionIn s .litres) v
+      → Did (editionIn u) u v (asked Load (take n out) []) r u' v'
+      → (r ≡ pos 0) × (modelOf (stateIn (editionIn u) u' v') .list ≡ modelOf (stateIn (editionIn s) s t) .list)
   -- "writing what was read yields the same bytes"
-  pub again : (list s' t' buffer out : List ℕ) (n : ℕ) → Did e s t (asked Load list []) (pos 0) s' t' → WroteOut e s' t' (asked ListWritten [] buffer) (pos n) out
-      → (n ≡ length list) × (out ≡ onto list buffer)
+  pub again : (list s' t' buffer out : List ℕ) (n : ℕ) → Did (editionIn s) s t (asked Load list []) (pos 0) s' t'
+      → WroteOut (editionIn s') s' t' (asked ListWritten [] buffer) (pos n) out → (n ≡ length list) × (out ≡ onto list buffer)

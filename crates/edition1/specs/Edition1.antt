@@ -2,9 +2,8 @@
 use mathlib.Core.Path.{_≡_}
 use mathlib.Core.Bool.{false}
 use mathlib.Core.List.{List, map}
-use Prim.Native.Nat.{ℕ, _≤_, _^_}
+use Prim.Native.Nat.{ℕ, _≤_}
 use lib.ListN.{length, take, replicate}
-use Rattle.records.specs.Bytes.{Bytes}
 use Rattle.records.specs.Format.{edition1}
 use Rattle.table.specs.declared.Site1.{Site1}
 use Rattle.table.specs.Table.{overlay}
@@ -20,7 +19,7 @@ use Rattle.edition1.specs.declared.Out1.{Out1}
 use Rattle.store.specs.Calls.{Call, told}
 use Rattle.held_state.specs.Held.{State}
 use Rattle.store.specs.State.{Done, step}
-use Rattle.store.specs.Widths.{Named}
+use Rattle.serve.specs.Entries.{Typed, Entry}
 
 abbrev pub storeOf1 : Store1 → Store
 storeOf1 s = record { count = s .count; held = s .held; grouped = s .grouped; groups = s .groups; shares = s .shares }
@@ -45,20 +44,25 @@ callOf1 q input buffer = record { request = requestOf1 q; input = input; buffer 
 
 -- what the types of a call say: its input is bytes, and the litres that it names have 16 bits
 abbrev pub Typed1 : Request1 → List ℕ → Type 0
-Typed1 q input = Bytes input × Named (2 ^ 16) (requestOf1 q)
-
--- what a call is passed beside the store and the table: a request, an input and a buffer
-pub record Passed1 : Type 0 where
-  pub request : Request1
-  pub input : List ℕ
-  pub buffer : List ℕ
-
-abbrev pub passed : Passed1 → Call
-passed p = callOf1 (p .request) (p .input) (p .buffer)
+Typed1 q input = Typed edition1 (requestOf1 q) input
 
 -- "A fresh desk has no sites, no plan, and 512 places for shares, all zero. Its 64 places for groups are zero too."
 abbrev pub fresh1 : Store1
 fresh1 = record { count = 0; held = false; grouped = 0; groups = replicate 64 0; shares = replicate 512 0 }
+
+-- the structs of edition 1, and what they are in figures
+abbrev pub entry1 : Entry
+entry1 =
+    record {
+      StoreType = Store1;
+      SiteType = Site1;
+      RequestType = Request1;
+      edition = edition1;
+      figures = storeOf1;
+      sites = map widened;
+      request = requestOf1;
+      fresh = fresh1;
+    }
 
 -- what an entry gives back, with the table and the buffer as it left them
 abbrev pub turned1 : Out1 → List Site1 → List ℕ → Done

@@ -89,7 +89,7 @@ fn narrow_shares(shares: [u64; 512]) -> [u32; 512]
 }
 
 // The store by the widths of the definition; its shares have 32 bits.
-fn widen_store(s: Store1) -> Store
+pub fn widen_store(s: Store1) -> Store
     ensures { λ r. ⌜ (r ≡ storeOf1 s) × ((i : ℕ) → getD (r .shares) i 0 < 2 ^ 32) ⌝ }
 {
     let groups = s.groups;
@@ -105,7 +105,7 @@ fn widen_store(s: Store1) -> Store
 }
 
 // The store by the widths of edition 1, if its shares fit.
-fn narrow_store(s: Store) -> Store1
+pub fn narrow_store(s: Store) -> Store1
     ensures { λ r. ⌜ (((i : ℕ) → getD (s .shares) i 0 < 2 ^ 32) → storeOf1 r ≡ s) ⌝ }
 {
     let groups = s.groups;

@@ -14,7 +14,7 @@ use ghost.Atoms.{Atoms}
 use base.Logic.{SProp}
 use denote.Ref.{RefT, now}
 use lib.IntN.{ℤ}
-use Rattle.records.specs.Format.{edition1, readList}
+use Rattle.records.specs.Format.{editionOf, readList}
 use Rattle.judge.specs.Check.{checkRow}
 use Rattle.engine.specs.Codes.{checkCode, MadeCode}
 use Rattle.engine.proofs.sulgheti_check as of-check
@@ -24,14 +24,14 @@ module _ {M : Type 1} (𝓤 : URA M) (H : Heap 𝓤) (A : Atoms 𝓤) (mem : Mem
   open Connectives (connectives 𝓤) using (⌜_⌝, ⊤ₛ)
 
   check-says : (plan plan' : RefT (List ℕ))
-      → of-check.clauses 𝓤 H A mem run κs (list, (plan, tt)) .ensures tt r (list', (plan', tt)) ≡ ⌜ r ≡ checkCode (checkRow edition1 (now list) (now plan)) ⌝
+      → of-check.clauses 𝓤 H A mem run κs (list, (plan, tt)) .ensures tt r (list', (plan', tt)) ≡ ⌜ r ≡ checkCode (checkRow (editionOf (now list)) (now list) (now plan)) ⌝
   check-says plan plan' = refl
 
   check-asks : (plan : RefT (List ℕ)) → of-check.clauses 𝓤 H A mem run κs (list, (plan, tt)) .requires tt ≡ ⊤ₛ
   check-asks plan = refl
 
   make-says : (out out' : RefT (List ℕ))
-      → of-make.clauses 𝓤 H A mem run κs (list, (out, tt)) .ensures tt r (list', (out', tt)) ≡ ⌜ MadeCode edition1 (readList edition1 512 (now list)) (now out) r (now out') ⌝
+      → of-make.clauses 𝓤 H A mem run κs (list, (out, tt)) .ensures tt r (list', (out', tt)) ≡ ⌜ MadeCode (editionOf (now list)) (readList (editionOf (now list)) 512 (now list)) (now out) r (now out') ⌝
   make-says out out' = refl
 
   make-asks : (out : RefT (List ℕ)) → of-make.clauses 𝓤 H A mem run κs (list, (out, tt)) .requires tt ≡ ⊤ₛ

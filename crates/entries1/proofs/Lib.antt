@@ -1,4 +1,2 @@
 pub mod Contracts
 pub mod Rows1
-pub mod StoredSteps
-pub mod Tables1

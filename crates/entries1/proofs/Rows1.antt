@@ -18,9 +18,6 @@ use Rattle.edition1.proofs.Request1 as Q
 use Rattle.edition1.proofs.Request1.Laws as Q′
 use Rattle.edition1.proofs.Decision1 as D
 use Rattle.edition1.proofs.Decision1.Laws as D′
-use Rattle.entries1.specs.declared.Places.{Places}
-use Rattle.entries1.proofs.Places as P
-use Rattle.entries1.proofs.Places.Laws as P′
 
 abbrev pub store : PlainRow K.the-row
 store = struct-row K.the-type K′.the-laws K′.the-copy K′.the-plain K′.lowers
@@ -33,9 +30,6 @@ request = enum-row Q.the-type Q′.the-laws tt Q′.the-copy Q′.the-plain Q′
 
 abbrev pub decision : PlainRow D.the-row
 decision = struct-row D.the-type D′.the-laws D′.the-copy D′.the-plain D′.lowers
-
-abbrev pub places : PlainRow P.the-row
-places = struct-row P.the-type P′.the-laws P′.the-copy P′.the-plain P′.lowers
 
 -- what the entry gives back of a decision
 abbrev pub outOf : Decision1 → Out1
@@ -53,10 +47,3 @@ module _ (d : Decision1) (is : Is D.the-row d (decision .val d ∷ [])) where
 
 pub count-fits : (k : Store1) → Is K.the-row k (store .val k ∷ []) → k .count < 2 ^ 64
 count-fits k is = LL.owed K.the-type K′.the-laws k _ is .0 .1
-
-module _ (p : Places) (is : Is P.the-row p (places .val p ∷ [])) where
-  pub from-fits : p .from < 2 ^ 64
-  from-fits = LL.owed P.the-type P′.the-laws p _ is .0 .1
-
-  pub to-fits : p .to < 2 ^ 64
-  to-fits = LL.owed P.the-type P′.the-laws p _ is .1 .0 .1

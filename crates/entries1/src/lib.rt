@@ -3,27 +3,23 @@ use edition1::Out1;
 use edition1::Request1;
 use edition1::Store1;
 use edition1::serve1;
+use edition1::widen_request;
+use serve::Places;
+use serve::stored;
 use store::Answer;
 use table::Site1;
+use table::places_on;
 ghost use mathlib.Core.Path.{_≡_};
-ghost use Prim.Native.Nat.{min};
 ghost use lib.ListN.{take, drop};
 ghost use Rattle.store.specs.State.{step};
-ghost use Rattle.edition1.specs.Edition1.{view1, callOf1, Typed1, turned1};
-ghost use Rattle.entries1.specs.Stored.{one, storedOf};
+ghost use Rattle.edition1.specs.Edition1.{view1, requestOf1, callOf1, Typed1, turned1};
+ghost use Rattle.serve.specs.Stored.{storedOf};
 
 // What a call gives back to a program that owns its table.
 pub struct OutOn1 {
     pub answer: Answer,
     pub store: Store1,
     pub table: [Site1; 600],
-}
-
-// The places of the array that a table of so many has.
-fn places_on1(places: usize) -> usize
-    ensures { λ r. ⌜ r ≡ min places 600 ⌝ }
-{
-    if places < 600 { places } else { 600 }
 }
 
 // A call for a program that owns its table: it lends the first so many places of the array, at most all 600, and those behind keep their content.
@@ -38,7 +34,7 @@ pub fn call_on1(
     ensures { λ r. ⌜ Typed1 request (now (input .entry)) × (turned1 (record { answer = r .answer; store = r .store }) (take places (r .table)) (now (buffer .exit)) ≡ step (view1 store (take places table)) (callOf1 request (now (input .entry)) (now (buffer .entry)))) × (drop places (r .table) ≡ drop places table) ⌝ }
 {
     let mut t = table;
-    let few = places_on1(places);
+    let few = places_on(places);
     let out = call1(store, &mut t[..few], request, input, buffer);
     OutOn1 {
         answer: out.answer,
@@ -47,32 +43,11 @@ pub fn call_on1(
     }
 }
 
-// Places of a table: from one up to another, which is not one of them.
-struct Places {
-    from: usize,
-    to: usize,
-}
-
-// The place i alone, if it is one of the first n; else none.
-fn one(i: usize, n: usize) -> Places
-    ensures { λ r. ⌜ r ≡ one i n ⌝ }
-{
-    if i < n {
-        return Places { from: i, to: i + 1 };
-    }
-    Places { from: 0, to: 0 }
-}
-
-// Which of the first n places a call stores, at a store with so many sites: a load all of them, a change and an add one, the others none.
+// Which of the first n places a call stores, at a store with so many sites.
 fn stored1(request: Request1, count: usize, n: usize) -> Places
-    ensures { λ r. ⌜ r ≡ storedOf request count n ⌝ }
+    ensures { λ r. ⌜ r ≡ storedOf (requestOf1 request) count n ⌝ }
 {
-    match request {
-        Request1::Load => Places { from: 0, to: n },
-        Request1::Change(i, _) => one(i, n),
-        Request1::Add(_, _, _) => one(count, n),
-        _ => Places { from: 0, to: 0 },
-    }
+    stored(widen_request(request), count, n)
 }
 
 // A call, over a lent table. Four calls and no branch.

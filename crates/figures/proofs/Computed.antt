@@ -15,7 +15,8 @@ use Rattle.records.specs.declared.PlanArray.{PlanArray}
 use Rattle.records.specs.declared.ListRead.{ListRead}
 use Rattle.records.specs.Values.{listing}
 use Rattle.records.specs.Outcome.{Outcome, refused, passed}
-use Rattle.records.specs.Format.{edition1, readList}
+use Rattle.records.specs.declared.Edition.{Edition}
+use Rattle.records.specs.Format.{readList}
 use Rattle.records.specs.Answer.{listRead}
 use Rattle.tables.specs.Tables.{net, groupsIn, Holds, Ready, Tables, Litres, Placed}
 use Rattle.tables.proofs.Verdicts.{tables}
@@ -26,13 +27,13 @@ use Rattle.figures.specs.declared.Figures.{Figures}
 use Rattle.figures.specs.Computed.{Computed, Of}
 
 -- a list that is read, also an empty one for a refused list, has at most 512 sites, and its depots are numbers from 0 to 63
-pub read-in-range : (s : List ℕ) (x : ListRead) → x ≡ listRead (readList edition1 512 s) → (x .list .count ≤ 512) × T (depotsInRange (listing (x .list)))
+pub read-in-range : (e : Edition) (s : List ℕ) (x : ListRead) → x ≡ listRead (readList e 512 s) → (x .list .count ≤ 512) × T (depotsInRange (listing (x .list)))
 unfolding depotsInRange all
-read-in-range s x is = by-outcome (readList edition1 512 s) refl is
+read-in-range e s x is = by-outcome (readList e 512 s) refl is
   where
-    by-outcome : (o : Outcome Listing) → readList edition1 512 s ≡ o → x ≡ listRead o → (x .list .count ≤ 512) × T (depotsInRange (listing (x .list)))
-    by-outcome (refused n) h e = rw e (lit≤ tt, tt)
-    by-outcome (passed l) h e = in-range edition1 s x (length (l .sites)) (rw h e) (rw e)
+    by-outcome : (o : Outcome Listing) → readList e 512 s ≡ o → x ≡ listRead o → (x .list .count ≤ 512) × T (depotsInRange (listing (x .list)))
+    by-outcome (refused n) h k = rw k (lit≤ tt, tt)
+    by-outcome (passed l) h k = in-range e s x (length (l .sites)) (rw h k) (rw k)
 
 module _ (list : ListArray) (plan : PlanArray) (few : list .count ≤ 512) (range : T (depotsInRange (listing list))) (p : Planned list plan)
     (wide : length (list .sites) ≡ 512) (deep : length (plan .groups) ≡ 64) where
@@ -64,5 +65,5 @@ module _ (list : ListArray) (plan : PlanArray) (few : list .count ≤ 512) (rang
         }
 
 -- the answer of the reader, with the figures of the list that it read
-pub found : (s : List ℕ) (x : ListRead) (f : Figures) → x ≡ listRead (readList edition1 512 s) → f .list ≡ x .list → Computed f → Of s (record { answer = x .answer; figures = f })
-found s x f is same k = record { read = rw same is; computed = k }
+pub found : (e : Edition) (s : List ℕ) (x : ListRead) (f : Figures) → x ≡ listRead (readList e 512 s) → f .list ≡ x .list → Computed f → Of e s (record { answer = x .answer; figures = f })
+found e s x f is same k = record { read = rw same is; computed = k }

@@ -5,7 +5,8 @@ use Prim.Native.Nat.{ℕ}
 use lib.ListN.{length}
 use Rattle.density.specs.Plan.{groupLitres}
 use Rattle.records.specs.declared.ListRead.{ListRead}
-use Rattle.records.specs.Format.{edition1, readList}
+use Rattle.records.specs.declared.Edition.{Edition}
+use Rattle.records.specs.Format.{readList}
 use Rattle.records.specs.Answer.{listRead}
 use Rattle.tables.specs.Tables.{net, groupsIn, Holds, Ready, Tables}
 use Rattle.maker.specs.Planned.{Planned}
@@ -21,7 +22,7 @@ pub record Computed (x : Figures) : Type 0 where
   pub length-litres : length (x .litres) ≡ 64
   pub litres : Holds (x .litres) (groupLitres (net (x .list)) (groupsIn (x .list) (x .plan))) (x .plan .count)
 
--- what the bytes of a list give: the answer and the list are those of rows 1 to 6, and the figures are the list's
-pub record Of (bytes : List ℕ) (r : Found) : Type 0 where
-  pub read : _≡_ {A = ListRead} (record { answer = r .answer; list = r .figures .list }) (listRead (readList edition1 512 bytes))
+-- what the bytes of a list of an edition give: the answer and the list are those of rows 1 to 6, and the figures are the list's
+pub record Of (e : Edition) (bytes : List ℕ) (r : Found) : Type 0 where
+  pub read : _≡_ {A = ListRead} (record { answer = r .answer; list = r .figures .list }) (listRead (readList e 512 bytes))
   pub computed : Computed (r .figures)

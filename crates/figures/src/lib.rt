@@ -1,4 +1,5 @@
 // The figures of a list: the plan made for it, the place of each depot, and q and W of each group.
+use records::Edition;
 use records::ListArray;
 use records::PlanArray;
 use records::Read;
@@ -45,11 +46,12 @@ fn of_list(list: ListArray) -> Figures
     }
 }
 
-// Reads a list, and computes its figures.
-pub fn read(input: &[u8]) -> Found
-    ensures { λ r. ⌜ Of (now (input .entry)) r ⌝ }
+// Reads a list of an edition, and computes its figures.
+pub fn read(e: Edition, input: &[u8]) -> Found
+    requires { ⌜ e .litres ≤ 4 ⌝ }
+    ensures { λ r. ⌜ Of e (now (input .entry)) r ⌝ }
 {
-    let found = readers::list::read(records::edition1(), 512, input);
+    let found = readers::list::read(e, 512, input);
     let answer = found.answer;
     let list = found.list;
     let figures = of_list(list);

@@ -12,7 +12,7 @@ use contract.Notation.{Connectives, connectives}
 use ghost.Atoms.{Atoms}
 use base.Logic.{SProp}
 use denote.Ref.{RefT, now}
-use Rattle.records.specs.Format.{edition1}
+use Rattle.records.specs.Format.{editionOf}
 use Rattle.tables.specs.declared.Verdict.{Verdict}
 use Rattle.tables.specs.Verdict.{verdict}
 use Rattle.judge.specs.Check.{checkRow}
@@ -22,7 +22,7 @@ module _ {M : Type 1} (𝓤 : URA M) (H : Heap 𝓤) (A : Atoms 𝓤) (mem : Mem
   open Connectives (connectives 𝓤) using (⌜_⌝, ⊤ₛ)
 
   check-says : (r : Verdict) (list' plan' : RefT (List ℕ))
-      → of-check.clauses 𝓤 H A mem run κs (list, (plan, tt)) .ensures tt r (list', (plan', tt)) ≡ ⌜ r ≡ verdict (checkRow edition1 (now list) (now plan)) ⌝
+      → of-check.clauses 𝓤 H A mem run κs (list, (plan, tt)) .ensures tt r (list', (plan', tt)) ≡ ⌜ r ≡ verdict (checkRow (editionOf (now list)) (now list) (now plan)) ⌝
   check-says r list' plan' = refl
 
   check-asks : of-check.clauses 𝓤 H A mem run κs (list, (plan, tt)) .requires tt ≡ ⊤ₛ

@@ -1,10 +1,13 @@
--- Check passes exactly the plans that are true of a list that reads, as bytes. Assumes nothing.
+-- Check passes exactly the plans that are true of a list that reads, as bytes, in the list's edition. Assumes nothing.
 use mathlib.Core.Path.{_≡_, refl, sym, _∙_}
 use mathlib.Core.Logic.{_↔_}
 use mathlib.Core.List.{List}
-use mathlib.Core.Option.{none}
+use mathlib.Core.Bool.{Bool, true, false, or-true}
+use mathlib.Core.Option.{none, some, Option·none-ne-some}
 use Prim.Native.Nat.{ℕ}
 use native.Mathlib.Omega.{arith}
+use borrow.Author.Tests.{not-true}
+use lib.Dec.{ltb, eqb}
 use lib.ListN.{length}
 use Rattle.density.specs.Network.{Listing, network}
 use Rattle.density.specs.Plan.{Formed}
@@ -12,13 +15,14 @@ use Rattle.density.specs.Rows.{firstRow, planRows}
 use Rattle.density.proofs.Lists.{valid}
 use Rattle.density.proofs.Checks.{no-row}
 use Rattle.records.specs.declared.Edition.{Edition}
-use Rattle.records.specs.Bytes.{Bytes}
+use Rattle.records.specs.Bytes.{Bytes, field}
+use Rattle.records.specs.Record.{wrongMark}
 use Rattle.records.specs.Values.{Plan}
 use Rattle.records.specs.Outcome.{Outcome, refused, passed, gate, bind}
-use Rattle.records.specs.Format.{edition1, readList, readPlan}
+use Rattle.records.specs.Format.{edition1, edition2, editionOf, readList, readPlan}
 use Rattle.records.specs.Write.{LaidOut, Marked}
 use Rattle.records.proofs.RoundTrip.{list-few, list-depots, laid-read, read-laid}
-use Rattle.records.proofs.Samples.{marked1}
+use Rattle.readers.proofs.Editions.{marks}
 use Rattle.judge.specs.Check.{refusal, checkRow, TrueOf}
 use Rattle.judge.proofs.Judged.{refusal-settle}
 
@@ -63,5 +67,37 @@ module _ (e : Edition) (list plan : List ℕ) where
   pub check-true-by : Marked e → Bytes plan → checkRow e list plan ≡ none ↔ TrueOf e list plan
   check-true-by m b = (passes→ b, →passes m)
 
-pub check-true : (list plan : List ℕ) → Bytes plan → checkRow edition1 list plan ≡ none ↔ TrueOf edition1 list plan
-check-true list plan = check-true-by edition1 list plan marked1
+-- the same of the list's own edition, which Check goes by
+pub check-true : (list plan : List ℕ) → Bytes plan → checkRow (editionOf list) list plan ≡ none ↔ TrueOf (editionOf list) list plan
+check-true list plan = check-true-by (editionOf list) list plan (marks list)
+
+list-row : (e : Edition) (list plan : List ℕ) {n : ℕ} → readList e 512 list ≡ refused n → checkRow e list plan ≡ some n
+unfolding checkRow
+list-row e list plan r = rw r
+
+-- "Each edition of plan passes only with its own edition of list, and row 7 refuses the other": a list that reads, and a plan with another mark than its edition's
+pub another-plan : (e : Edition) (list plan : List ℕ) {l : Listing} → readList e 512 list ≡ passed l → wrongMark (e .mark .plan) plan ≡ true
+    → checkRow e list plan ≡ some 7
+unfolding checkRow readPlan firstRow
+another-plan e list plan r w = rw (r, w, or-true (ltb (length plan) 5)) refl
+
+-- so a plan that passes has the mark of its list's edition
+own-mark : (e : Edition) (list plan : List ℕ) → checkRow e list plan ≡ none → wrongMark (e .mark .plan) plan ≡ false
+own-mark e list plan h = read (readList e 512 list) refl
+  where
+    marked : (b : Bool) → wrongMark (e .mark .plan) plan ≡ b → {l : Listing} → readList e 512 list ≡ passed l → b ≡ false
+    marked false w r = refl
+    marked true w r = absurd (Option·none-ne-some 7 (sym h ∙ another-plan e list plan r w))
+
+    read : (o : Outcome Listing) → readList e 512 list ≡ o → wrongMark (e .mark .plan) plan ≡ false
+    read (refused n) r = absurd (Option·none-ne-some n (sym h ∙ list-row e list plan r))
+    read (passed l) r = marked (wrongMark (e .mark .plan) plan) refl r
+
+pub own-edition : (list plan : List ℕ) → checkRow (editionOf list) list plan ≡ none → wrongMark (editionOf list .mark .plan) plan ≡ false
+own-edition list plan = own-mark (editionOf list) list plan
+
+-- "Check .. take either edition": a list that begins as one of neither edition is refused by row 1, whatever the plan
+pub neither : (list plan : List ℕ) → wrongMark (edition1 .mark .list) list ≡ true → wrongMark (edition2 .mark .list) list ≡ true
+    → checkRow (editionOf list) list plan ≡ some 1
+unfolding checkRow readList firstRow
+neither list plan w v = rw (not-true (eqb (field list 0 2) (edition2 .mark .list)) v, w, or-true (ltb (length list) 4)) refl

@@ -1,7 +1,7 @@
--- Document 01, "When the gate stays shut": the examples of rows 1 to 16, as bytes.
+-- Document 01, "When the gate stays shut": the examples of rows 1 to 16, as bytes. Document 02, c: rows of its longer records.
 use mathlib.Core.List.{List, [], _∷_}
 use Prim.Native.Nat.{ℕ}
-use Rattle.records.specs.Samples.{listT}
+use Rattle.records.specs.Samples.{listT, planT, listBig, planBig}
 
 -- what Check is given
 pub record Given : Type 0 where
@@ -63,4 +63,46 @@ refusals =
     ∷ given listT (plan 1 1 (group 3 (share 11 [])))
     -- own sites 0 and 1 of 4, groups {0}, {1}, shares 4, 4
     ∷ given (head 2 (site 0 0 4 (site 1 1 4 []))) (plan 2 2 (group 1 (group 2 (share 4 (share 4 [])))))
+    ∷ []
+
+-- a row, and what gets it
+pub record Refusal : Type 0 where
+  pub row : ℕ
+  pub given : Given
+
+abbrev pub gets : ℕ → List ℕ → List ℕ → Refusal
+gets n list plan = record { row = n; given = given list plan }
+
+-- Document 02, c: "List edition 2 begins 4C 32", "Plan edition 2 begins 50 32"; here one site and one group
+abbrev pub head2 : List ℕ → List ℕ
+head2 rest = 0x4C ∷ 0x32 ∷ 0x01 ∷ 0x00 ∷ rest
+
+abbrev pub plan2 : List ℕ → List ℕ
+plan2 rest = 0x50 ∷ 0x32 ∷ 0x01 ∷ 0x01 ∷ 0x00 ∷ group 3 rest
+
+-- one site of 70,000 litres (`listBig`) and its plan, changed
+unfoldable pub refusals2 : List Refusal
+refusals2 =
+    -- a list of neither edition
+    gets 1 (0x4C ∷ 0x33 ∷ 0x01 ∷ 0x00 ∷ 0x53 ∷ 0x32 ∷ 0x00 ∷ 0x01 ∷ 0x70 ∷ 0x11 ∷ 0x01 ∷ 0x00 ∷ []) planBig
+    -- litres in 2 bytes
+    ∷ gets 3 (head2 (0x53 ∷ 0x32 ∷ 0x00 ∷ 0x01 ∷ 0x70 ∷ 0x11 ∷ [])) planBig
+    -- the site mark of edition 1
+    ∷ gets 4 (head2 (0x53 ∷ 0x54 ∷ 0x00 ∷ 0x01 ∷ 0x70 ∷ 0x11 ∷ 0x01 ∷ 0x00 ∷ [])) planBig
+    -- no litres
+    ∷ gets 6 (head2 (0x53 ∷ 0x32 ∷ 0x00 ∷ 0x01 ∷ 0x00 ∷ 0x00 ∷ 0x00 ∷ 0x00 ∷ [])) planBig
+    -- "Each edition of plan passes only with its own edition of list, and row 7 refuses the other"
+    ∷ gets 7 listBig planT
+    ∷ gets 7 listT planBig
+    -- also where there is no site, and nothing else refuses
+    ∷ gets 7 (0x4C ∷ 0x32 ∷ 0x00 ∷ 0x00 ∷ []) (0x50 ∷ 0x4C ∷ 0x00 ∷ 0x00 ∷ 0x00 ∷ [])
+    ∷ gets 7 (0x4C ∷ 0x53 ∷ 0x00 ∷ 0x00 ∷ []) (0x50 ∷ 0x32 ∷ 0x00 ∷ 0x00 ∷ 0x00 ∷ [])
+    -- s in 4 bytes
+    ∷ gets 10 listBig (plan2 (0x53 ∷ 0x33 ∷ 0x70 ∷ 0x11 ∷ 0x01 ∷ 0x00 ∷ []))
+    -- the share mark of edition 1
+    ∷ gets 11 listBig (plan2 (0x53 ∷ 0x48 ∷ 0x70 ∷ 0x11 ∷ 0x01 ∷ 0x00 ∷ 0x00 ∷ 0x00 ∷ 0x00 ∷ 0x00 ∷ []))
+    -- s = 70,000 + 2^32: the high half counts
+    ∷ gets 14 listBig (plan2 (0x53 ∷ 0x33 ∷ 0x70 ∷ 0x11 ∷ 0x01 ∷ 0x00 ∷ 0x01 ∷ 0x00 ∷ 0x00 ∷ 0x00 ∷ []))
+    -- s = 70,001
+    ∷ gets 15 listBig (plan2 (0x53 ∷ 0x33 ∷ 0x71 ∷ 0x11 ∷ 0x01 ∷ 0x00 ∷ 0x00 ∷ 0x00 ∷ 0x00 ∷ 0x00 ∷ []))
     ∷ []

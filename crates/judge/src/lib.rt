@@ -4,11 +4,11 @@ use records::Read;
 use tables::Verdict;
 ghost use mathlib.Core.Path.{_≡_};
 ghost use Prim.Native.Nat.{_≤_};
-ghost use Rattle.records.specs.Format.{edition1};
+ghost use Rattle.records.specs.Format.{editionOf};
 ghost use Rattle.tables.specs.Verdict.{verdict};
 ghost use Rattle.judge.specs.Check.{checkRow};
 
-// Check, of an edition.
+// Check, by an edition.
 pub fn check_by(e: Edition, list: &[u8], plan: &[u8]) -> Verdict
     requires { ⌜ (e .litres ≤ 4) × (e .share ≤ 8) ⌝ }
     ensures { λ r. ⌜ r ≡ verdict (checkRow e (now (list .entry)) (now (plan .entry))) ⌝ }
@@ -28,9 +28,9 @@ pub fn check_by(e: Edition, list: &[u8], plan: &[u8]) -> Verdict
     verify::plan_row(sites, shares)
 }
 
-// Check: a list and a plan. Where the list is refused, the plan is not read.
+// Check: a list of either edition and a plan, which passes only in the list's. Where the list is refused, the plan is not read.
 pub fn check(list: &[u8], plan: &[u8]) -> Verdict
-    ensures { λ r. ⌜ r ≡ verdict (checkRow edition1 (now (list .entry)) (now (plan .entry))) ⌝ }
+    ensures { λ r. ⌜ r ≡ verdict (checkRow (editionOf (now (list .entry))) (now (list .entry)) (now (plan .entry))) ⌝ }
 {
-    check_by(records::edition1(), list, plan)
+    check_by(readers::edition::edition_of(list), list, plan)
 }

@@ -83,23 +83,6 @@ site-at size at i t h b l e v =
     ∙ ap (λ (j : ℕ). placeIn (size - 2) (take (placeSize (size - 2)) (drop j t))) (e ∙ ap (λ (m : ℕ). m * i) k)
     ∙ sym (site-here (size - 2) t i (rw (places-by size t h) l))
 
--- the bytes of the number that a site's figures make
-module _ (f s l x : ℕ) (a : f < 256) (b : s < 256) (e : x ≡ f + 256 * s + 65536 * l) where
-  low : x % 256 ≡ f % 256
-  low = omega (arith, a, b, e)
-
-  middle : x / 256 % 256 ≡ s % 256
-  middle = omega (arith, a, b, e)
-
-  high : x / 256 / 256 ≡ l
-  high = omega (arith, a, b, e)
-
-  pub body-bytes : (w : ℕ) → le (2 + w) x ≡ le 1 f ++ (le 1 s ++ le w l)
-  unfolding le
-  body-bytes w =
-      let k : 2 + w ≡ suc (suc w) = omega arith in
-      ap (λ (m : ℕ). le m x) k ∙ ap₂ (λ (c : ℕ) (d : List ℕ). c ∷ d) low (ap₂ (λ (c : ℕ) (d : List ℕ). c ∷ d) middle (ap (le w) high))
-
 -- ---- one site written alone
 
 place-more : (k j : ℕ) (p t : List ℕ) → place (k + j) p t ≡ take k t ++ place j p (drop k t)

@@ -1,16 +1,17 @@
 // The store and the table laid in bytes, by the width of a share and of a site's litres: what bytes stand for, and what is written over them.
-// Numbers and places are read and written one after another by loops over a width; the width of edition 1 is given to them as a constant.
+// Numbers and places are read and written one after another by loops over a width; the widths of both editions are given as constants to those that read and to that of the places, edition 1's to that of the shares that are written.
 use density::Site;
 use held_state::is_bad;
 use records::ListArray;
 use records::number::field;
 use records::scan::either;
 use table::capacity;
+use writers::body_of;
 use writers::number_at;
 ghost use mathlib.Core.Path.{_≡_};
 ghost use mathlib.Core.Bool.{true};
 ghost use mathlib.Core.List.{flatMap};
-ghost use Prim.Native.Nat.{ℕ, _<_, _≤_, _+_, _*_, _-_, _^_, min};
+ghost use Prim.Native.Nat.{_<_, _≤_, _+_, _*_, _-_, _^_, min};
 ghost use lib.ListN.{length, take, drop, getD, replicate};
 ghost use Rattle.sets.specs.Sum.{any};
 ghost use Rattle.density.specs.Network.{noSite};
@@ -48,13 +49,16 @@ fn numbers_by(out: &mut [u64], s: &[u8], from: usize, w: usize)
     }
 }
 
-// The same; the width of edition 1's shares is a constant of its call.
+// The same; the widths of the editions' shares are constants of its calls.
 fn numbers_in(out: &mut [u64], s: &[u8], from: usize, w: usize)
     requires { ⌜ (w ≤ 8) × (from + w * length (now out) ≤ length (now s)) ⌝ }
     ensures { λ _. ⌜ now (out .exit) ≡ numbers w (length (now (out .entry))) from (now (s .entry)) ⌝ }
 {
     if w == 4 {
         return numbers_by(out, s, from, 4);
+    }
+    if w == 8 {
+        return numbers_by(out, s, from, 8);
     }
     numbers_by(out, s, from, w)
 }
@@ -142,6 +146,9 @@ pub fn list_in(t: &[u8], w: usize, n: usize) -> ListArray
     if w == 2 {
         return list_by(t, 4, n);
     }
+    if w == 4 {
+        return list_by(t, 6, n);
+    }
     list_by(t, 2 + w, n)
 }
 
@@ -170,6 +177,9 @@ pub fn is_any_bad(t: &[u8], w: usize, n: usize) -> bool
 {
     if w == 2 {
         return bad_by(t, 4, n);
+    }
+    if w == 4 {
+        return bad_by(t, 6, n);
     }
     bad_by(t, 2 + w, n)
 }
@@ -230,13 +240,6 @@ pub fn put_plan(
     put_numbers(&mut out[536..], w, shares);
 }
 
-// The number that a site's bytes are.
-fn body_of(x: Site) -> u64
-    ensures { λ r. ⌜ ((w : ℕ) → le (2 + w) r ≡ placeBytes w x) ⌝ }
-{
-    (x.first as u64) + 256 * (x.second as u64) + 65536 * (x.litres as u64)
-}
-
 // A site goes to a place of a table's bytes.
 pub fn put_site(out: &mut [u8], at: usize, w: usize, x: Site)
     requires { ⌜ at + placeSize w ≤ length (now out) ⌝ }
@@ -268,6 +271,9 @@ pub fn put_sites(out: &mut [u8], w: usize, sites: [Site; 512], n: usize)
 {
     if w == 2 {
         return put_by(out, 2, sites, n);
+    }
+    if w == 4 {
+        return put_by(out, 4, sites, n);
     }
     put_by(out, w, sites, n);
 }

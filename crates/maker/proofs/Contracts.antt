@@ -13,7 +13,7 @@ use ghost.Atoms.{Atoms}
 use base.Logic.{SProp}
 use denote.Ref.{RefT, now}
 use Rattle.records.specs.declared.Wrote.{Wrote}
-use Rattle.records.specs.Format.{edition1, readList}
+use Rattle.records.specs.Format.{editionOf, readList}
 use Rattle.maker.specs.Make.{Made}
 use Rattle.maker.proofs.make as of-make
 
@@ -21,7 +21,7 @@ module _ {M : Type 1} (𝓤 : URA M) (H : Heap 𝓤) (A : Atoms 𝓤) (mem : Mem
   open Connectives (connectives 𝓤) using (⌜_⌝, ⊤ₛ)
 
   make-says : (r : Wrote) (list' out' : RefT (List ℕ))
-      → of-make.clauses 𝓤 H A mem run κs (list, (out, tt)) .ensures tt r (list', (out', tt)) ≡ ⌜ Made edition1 (readList edition1 512 (now list)) (now out) r (now out') ⌝
+      → of-make.clauses 𝓤 H A mem run κs (list, (out, tt)) .ensures tt r (list', (out', tt)) ≡ ⌜ Made (editionOf (now list)) (readList (editionOf (now list)) 512 (now list)) (now out) r (now out') ⌝
   make-says r list' out' = refl
 
   make-asks : of-make.clauses 𝓤 H A mem run κs (list, (out, tt)) .requires tt ≡ ⊤ₛ

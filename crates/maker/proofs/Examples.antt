@@ -17,7 +17,7 @@ use Rattle.records.specs.declared.Wrote.the-variants.{Length}
 use Rattle.records.specs.Bytes.{value}
 use Rattle.records.specs.Record.{records}
 use Rattle.records.specs.Outcome.{passed}
-use Rattle.records.specs.Format.{edition1, readList, planOf}
+use Rattle.records.specs.Format.{edition1, editionOf, readList, planOf}
 use Rattle.records.specs.Samples.{listT, listOwn}
 use Rattle.records.proofs.Samples.{T as T-list, T-read}
 use Rattle.maker.specs.Make.{Made}
@@ -46,8 +46,9 @@ groups-O : groupsOf (network sitesO) ≡ 1 ∷ []
 unfolding starred
 groups-O = sym (decomposition-is (network sitesO) (valid sitesO in-range-O) (1 ∷ []) (starred-known 2 (lit< tt) .plan .groups))
 
-pub not-one-plan : (out out' last last' : List ℕ) (n n' : ℕ) → Made edition1 (readList edition1 512 listT) out (Length n) last
-    → Made edition1 (readList edition1 512 listOwn) out' (Length n') last' → take n last ≡ take n' last' → ⊥
+pub not-one-plan : (out out' last last' : List ℕ) (n n' : ℕ) → Made (editionOf listT) (readList (editionOf listT) 512 listT) out (Length n) last
+    → Made (editionOf listOwn) (readList (editionOf listOwn) 512 listOwn) out' (Length n') last' → take n last ≡ take n' last' → ⊥
+unfolding value
 not-one-plan out out' last last' n n' m m' e =
     let g = groups-written edition1 listT out last n T-read m in
     let g' = groups-written edition1 listOwn out' last' n' reads-O m' in

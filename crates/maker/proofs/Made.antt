@@ -6,7 +6,7 @@ use mathlib.Core.Option.{none}
 use Prim.Native.Nat.{ℕ, _+_, _*_, _<_, _≤_, _^_}
 use native.Mathlib.Nat.{lt-of-le-of-lt, lt-of-lt-of-le, le-refl, mul-le-mul, mul-lt-mul-of-pos-right}
 use native.Mathlib.Omega.{arith}
-use lib.Dec.{T, leb, lit<}
+use lib.Dec.{T, leb, lit<, lit≤}
 use lib.ListN.{length, getD, take, drop}
 use lib.Seq.{take-at}
 use Rattle.density.specs.Network.{Listing, network, noSite, siteAt, depotsInRange}
@@ -27,31 +27,32 @@ use Rattle.records.specs.declared.Wrote.the-variants.{Length, Refused}
 use Rattle.records.specs.Values.{Plan, listing, planIn}
 use Rattle.records.specs.Bytes.{Bytes}
 use Rattle.records.specs.Outcome.{Outcome, refused, passed}
-use Rattle.records.specs.Format.{edition1, readList, planOf}
+use Rattle.records.specs.Format.{editionOf, shareSize, readList, planOf}
 use Rattle.records.specs.Answer.{listArray, listRead}
 use Rattle.records.specs.Write.{planBytes, onto, Written, LaidOut, Marked, Good}
 use Rattle.records.proofs.Records.{all-at}
 use Rattle.records.proofs.Buffers.{length-plan}
 use Rattle.records.proofs.Answers.{list-counted, list-refused, listing-array}
 use Rattle.records.proofs.RoundTrip.{list-good, list-depots, list-few, laid-plan, laid-read}
+use Rattle.readers.proofs.Editions.{marks}
 use Rattle.judge.specs.Check.{checkRow}
 use Rattle.maker.specs.Planned.{Planned}
 use Rattle.maker.specs.Make.{PlanWritten, Made, planLength}
 
--- the shares of a true plan have the edition's width, where w × q has: w has the width of litres, and q is at most 64
-share-fits : (e : Edition) (l : Listing) (gs ss : List ℕ) → 256 ^ e .litres * 64 ≤ 256 ^ e .share
+-- the shares of a true plan have the edition's width, where w × q has: w has the width of litres, and q is at most 576, which depots of up to nine crews have
+share-fits : (e : Edition) (l : Listing) (gs ss : List ℕ) → 256 ^ e .litres * 576 ≤ 256 ^ e .share
     → ((i : ℕ) → i < length (l .sites) → siteAt l i .litres < 256 ^ e .litres) → TruePlan (network l) gs ss
     → (i : ℕ) → i < length ss → getD ss i 0 < 256 ^ e .share
 unfolding network firstShare whole groupSize
 share-fits e l gs ss wide small t i k =
     let j : i < length (l .sites) = subst (λ n. i < n) (t .form .each) k in
     let q = groupSize (network l) gs (carrier gs (siteAt l i)) in
-    let few : q ≤ 64 = size-≤ (network l) (group gs (carrier gs (siteAt l i))) 1 (λ d. le-refl 1) in
+    let few : q ≤ 576 = size-≤ (network l) (group gs (carrier gs (siteAt l i))) 9 (λ d. lit≤ tt) in
     lt-of-lt-of-le (lt-of-le-of-lt (t .shares .rules i j .bound) (lt-of-le-of-lt (mul-le-mul (le-refl (siteAt l i .litres)) few) (mul-lt-mul-of-pos-right (small i j) (lit< tt)))) wide
 
 -- the plan made of a list that was read, written
 made-from : (e : Edition) (s : List ℕ) {l : Listing} (p : PlanArray) {n : ℕ} (out last : List ℕ) (r : Wrote)
-    → 256 ^ e .litres * 64 ≤ 256 ^ e .share → Bytes s → readList e 512 s ≡ passed l → length (l .sites) ≡ n → Planned (listArray l) p
+    → 256 ^ e .litres * 576 ≤ 256 ^ e .share → Bytes s → readList e 512 s ≡ passed l → length (l .sites) ≡ n → Planned (listArray l) p
     → Written (planBytes e (planIn p n)) out r last → Made e (readList e 512 s) out r last
 made-from e s {l = l} p {n = n} out last r wide b h c m w =
     rw h
@@ -87,7 +88,7 @@ module _ (e : Edition) (s : List ℕ) (x : ListRead) (n : ℕ) (is : x ≡ listR
   pub few-sites : n ≤ 512
   few-sites = subst (λ (k : ℕ). k ≤ 512) (found .2) (list-few e 512 s (found .1) .0)
 
-  pub made : (p : PlanArray) (out last : List ℕ) (r : Wrote) → 256 ^ e .litres * 64 ≤ 256 ^ e .share → Bytes s → Planned (x .list) p
+  pub made : (p : PlanArray) (out last : List ℕ) (r : Wrote) → 256 ^ e .litres * 576 ≤ 256 ^ e .share → Bytes s → Planned (x .list) p
       → Written (planBytes e (planIn p n)) out r last → Made e (readList e 512 s) out r last
   made p out last r wide b m w = made-from e s p out last r wide b (found .1) (found .2) (subst (λ (y : ListArray). Planned y p) (found .3) m) w
 
@@ -99,13 +100,13 @@ refusal-made e s x n out is row =
     rw k (refl, refl)
 
 -- "answers the plan's length", or row 20 where the buffer is shorter
-pub made-answer : (s : List ℕ) {l : Listing} (out last : List ℕ) (r : Wrote) → readList edition1 512 s ≡ passed l → Made edition1 (readList edition1 512 s) out r last
-    → r ≡ cond (leb (planLength l) (length out)) (Length (planLength l)) (Refused 20)
+pub made-answer : (e : Edition) (s : List ℕ) {l : Listing} (out last : List ℕ) (r : Wrote) → readList e 512 s ≡ passed l → Made e (readList e 512 s) out r last
+    → r ≡ cond (leb (planLength e l) (length out)) (Length (planLength e l)) (Refused 20)
 unfolding network
-made-answer s {l = l} out last r h m =
-    let p : PlanWritten edition1 l out r last = subst (λ (o : Outcome Listing). Made edition1 o out r last) h m in
+made-answer e s {l = l} out last r h m =
+    let p : PlanWritten e l out r last = subst (λ (o : Outcome Listing). Made e o out r last) h m in
     subst (λ (n : ℕ). r ≡ cond (leb n (length out)) (Length n) (Refused 20))
-    (length-plan edition1 (record { groups = groupsOf (network l); shares = p .shares }) ∙ ap (λ (n : ℕ). 5 + 10 * length (groupsOf (network l)) + 6 * n) (each l (p .plan)))
+    (length-plan e (record { groups = groupsOf (network l); shares = p .shares }) ∙ ap (λ (n : ℕ). 5 + 10 * length (groupsOf (network l)) + shareSize e * n) (each l (p .plan)))
     (p .written .answer)
   where
     each : (l : Listing) {gs ss : List ℕ} → TruePlan (network l) gs ss → length ss ≡ length (l .sites)
@@ -151,3 +152,7 @@ pub groups-written : (e : Edition) (s out last : List ℕ) (n : ℕ) {l : Listin
 groups-written e s out last n {l = l} h m =
     let p : PlanWritten e l out (Length n) last = subst (λ (o : Outcome Listing). Made e o out (Length n) last) h m in
     ap (λ (x : Plan). x .groups) (laid-plan e l _ (take n last) (made-laid e s out last n h p))
+
+-- the same of the list's own edition, which Make goes by
+pub make-passes : (s out last : List ℕ) (n : ℕ) → Made (editionOf s) (readList (editionOf s) 512 s) out (Length n) last → checkRow (editionOf s) s (take n last) ≡ none
+make-passes s = made-passes (editionOf s) (marks s) s

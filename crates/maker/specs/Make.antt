@@ -10,6 +10,7 @@ use Rattle.records.specs.declared.Edition.{Edition}
 use Rattle.records.specs.declared.Wrote.{Wrote}
 use Rattle.records.specs.declared.Wrote.the-variants.{Refused}
 use Rattle.records.specs.Outcome.{Outcome, refused, passed}
+use Rattle.records.specs.Format.{shareSize}
 use Rattle.records.specs.Write.{planBytes, Written}
 
 -- "Make's shares are left free: what holds of them is that the plan passes": there are shares with which the groups of the definition are a true plan,
@@ -26,6 +27,6 @@ abbrev pub Made : Edition → Outcome Listing → List ℕ → Wrote → List �
 Made e (refused n) out r last = (r ≡ Refused n) × (last ≡ out)
 Made e (passed l) out r last = PlanWritten e l out r last
 
--- "the plan's length, 5 + 10 × groups + 6 × sites"
-abbrev pub planLength : Listing → ℕ
-planLength l = 5 + 10 * length (groupsOf (network l)) + 6 * length (l .sites)
+-- "the plan's length, 5 + 10 × groups + 6 × sites" in edition 1, where the record of a share has 6 bytes; in edition 2 it has 10
+abbrev pub planLength : Edition → Listing → ℕ
+planLength e l = 5 + 10 * length (groupsOf (network l)) + shareSize e * length (l .sites)

@@ -3,7 +3,7 @@ ghost use Prim.Native.Nat.{_*_, _≤_, _^_};
 ghost use lib.Dec.{T};
 ghost use Rattle.density.specs.Network.{depotsInRange};
 ghost use Rattle.records.specs.Values.{listing};
-ghost use Rattle.records.specs.Format.{edition1, readList};
+ghost use Rattle.records.specs.Format.{editionOf, readList};
 ghost use Rattle.maker.specs.Planned.{Planned};
 ghost use Rattle.maker.specs.Make.{Made};
 use records::Edition;
@@ -20,9 +20,9 @@ pub fn make_plan(list: ListArray) -> PlanArray
     decompose::decompose(list)
 }
 
-// Make, over an edition whose shares have room for w × q.
+// Make, by an edition whose shares have room for w × q, with q up to 576.
 fn make_by(e: Edition, list: &[u8], out: &mut [u8]) -> Wrote
-    requires { ⌜ (e .litres ≤ 4) × (e .share ≤ 8) × (256 ^ e .litres * 64 ≤ 256 ^ e .share) ⌝ }
+    requires { ⌜ (e .litres ≤ 4) × (e .share ≤ 8) × (256 ^ e .litres * 576 ≤ 256 ^ e .share) ⌝ }
     ensures { λ r. ⌜ Made e (readList e 512 (now (list .entry))) (now (out .entry)) r (now (out .exit)) ⌝ }
 {
     let found = readers::list::read(e, 512, list);
@@ -35,9 +35,9 @@ fn make_by(e: Edition, list: &[u8], out: &mut [u8]) -> Wrote
     writers::plan(e, p, n, out)
 }
 
-// Make: writes a plan for the list at the front of `out`, and answers its length.
+// Make: writes a plan for a list of either edition, in the list's, at the front of `out`, and answers its length.
 pub fn make(list: &[u8], out: &mut [u8]) -> Wrote
-    ensures { λ r. ⌜ Made edition1 (readList edition1 512 (now (list .entry))) (now (out .entry)) r (now (out .exit)) ⌝ }
+    ensures { λ r. ⌜ Made (editionOf (now (list .entry))) (readList (editionOf (now (list .entry))) 512 (now (list .entry))) (now (out .entry)) r (now (out .exit)) ⌝ }
 {
-    make_by(records::edition1(), list, out)
+    make_by(readers::edition::edition_of(list), list, out)
 }

@@ -1,4 +1,4 @@
-// Reads a list on standard input, at most 3,077 bytes, makes a plan, and prints it for a person to read: its groups, and what each depot brings to each site.
+// Reads a list of either edition on standard input, at most 4,101 bytes, makes a plan, and prints it for a person to read: its groups, and what each depot brings to each site.
 // Of a list that is refused it prints the row and what it means.
 use figures::Figures;
 use libc::STDIN_FILENO;
@@ -174,15 +174,23 @@ fn print_head_row(row: u8) {
     explain(
         row,
         1,
-        b"the list has under 4 bytes or does not begin with 4C 53\n",
+        b"the list has under 4 bytes or begins neither with 4C 53 nor with 4C 32\n",
     );
     explain(row, 2, b"the list has more than 512 sites\n");
-    explain(row, 3, b"the list's length is not 4 + 6 x sites\n");
+    explain(
+        row,
+        3,
+        b"the list's length is not 4 + 6 x sites, or 4 + 8 x sites if it begins with 4C 32\n",
+    );
 }
 
 // Prints what a row of a list's sites means.
 fn print_site_row(row: u8) {
-    explain(row, 4, b"a site does not begin with 53 54\n");
+    explain(
+        row,
+        4,
+        b"a site does not begin with 53 54, or with 53 32 if the list begins with 4C 32\n",
+    );
     explain(row, 5, b"a site names a depot above 63\n");
     explain(row, 6, b"a site has 0 litres\n");
 }
@@ -197,7 +205,7 @@ fn print_refusal(row: u8) {
 
 // Prints what the program says of a list.
 fn show(input: &[u8]) {
-    let found = figures::read(input);
+    let found = figures::read(readers::edition::edition_of(input), input);
     let answer = found.answer;
     match answer {
         Read::Count(_) => print_plan(found.figures),
@@ -206,7 +214,7 @@ fn show(input: &[u8]) {
 }
 
 fn main() {
-    let mut buf = [0u8; 3077];
+    let mut buf = [0u8; 4101];
     let n = io::read_full(STDIN_FILENO, &mut buf);
     show(&buf[..n]);
 }

@@ -1,6 +1,6 @@
 -- Document 01, "Records and their marks" and rows 1 to 11: how a list and a plan are read, over an edition.
 use Prim.Native.Nat.{ℕ, _+_, _*_}
-use mathlib.Core.Bool.{Bool, not, _||_}
+use mathlib.Core.Bool.{Bool, not, _||_, cond}
 use mathlib.Core.List.{List, [], _∷_, map}
 use lib.ListN.{length, drop}
 use lib.Dec.{ltb, eqb}
@@ -21,6 +21,20 @@ edition1 =
       litres = 2;
       share = 4;
     }
+
+-- Document 02, c, edition 2: 4C 32, 53 32 with "litres in 4 bytes", 50 32, 47 52 as in edition 1, and 53 33 "with s in 8 bytes".
+abbrev pub edition2 : Edition
+edition2 =
+    record {
+      mark = record { list = 0x324C; site = 0x3253; plan = 0x3250; group = 0x5247; share = 0x3353 };
+      litres = 4;
+      share = 8;
+    }
+
+-- "List edition 2 begins 4C 32": the edition that the first two bytes of a list name. A list with any other mark is read as one of edition 1, whose row 1 refuses
+-- it unless it begins 4C 53.
+abbrev pub editionOf : List ℕ → Edition
+editionOf s = cond (eqb (field s 0 2) (edition2 .mark .list)) edition2 edition1
 
 -- "53 54, first depot (1), second depot (1), litres (2)": the bytes of a site's record, and its site
 abbrev pub siteSize : Edition → ℕ

@@ -1,6 +1,8 @@
--- Document 01, "Records and their marks": T and its plan, as bytes; and "Own 0 of 7" of its lists with known plans.
+-- Document 01, "Records and their marks": T and its plan, as bytes; and "Own 0 of 7" of its lists with known plans. Document 02, c: a site of 70,000 litres and its plan, in edition 2.
 use mathlib.Core.List.{List, [], _∷_}
 use Prim.Native.Nat.{ℕ}
+use Rattle.density.specs.Network.{Listing}
+use Rattle.records.specs.Values.{Plan}
 
 -- "T is the list 4C 53 01 00 53 54 00 01 0A 00."
 abbrev pub listT : List ℕ
@@ -16,3 +18,20 @@ planT =
 -- "Own 0 of 7"
 abbrev pub listOwn : List ℕ
 listOwn = 0x4C ∷ 0x53 ∷ 0x01 ∷ 0x00 ∷ 0x53 ∷ 0x54 ∷ 0x00 ∷ 0x00 ∷ 0x07 ∷ 0x00 ∷ []
+
+-- one site between 0 and 1, of 70,000 litres
+abbrev pub Big : Listing
+Big = record { sites = record { first = 0; second = 1; litres = 70000 } ∷ [] }
+
+abbrev pub listBig : List ℕ
+listBig = 0x4C ∷ 0x32 ∷ 0x01 ∷ 0x00 ∷ 0x53 ∷ 0x32 ∷ 0x00 ∷ 0x01 ∷ 0x70 ∷ 0x11 ∷ 0x01 ∷ 0x00 ∷ []
+
+-- one group of both depots, and s = 70,000 of 140,000: each brings half
+abbrev pub planOfBig : Plan
+planOfBig = record { groups = 3 ∷ []; shares = 70000 ∷ [] }
+
+abbrev pub planBig : List ℕ
+planBig =
+    0x50 ∷ 0x32 ∷ 0x01 ∷ 0x01 ∷ 0x00
+    ∷ 0x47 ∷ 0x52 ∷ 0x03 ∷ 0x00 ∷ 0x00 ∷ 0x00 ∷ 0x00 ∷ 0x00 ∷ 0x00 ∷ 0x00
+    ∷ 0x53 ∷ 0x33 ∷ 0x70 ∷ 0x11 ∷ 0x01 ∷ 0x00 ∷ 0x00 ∷ 0x00 ∷ 0x00 ∷ 0x00 ∷ []

@@ -3,7 +3,7 @@ use density::Site;
 ghost use mathlib.Core.Path.{_≡_};
 ghost use Rattle.records.specs.declared.Read.the-variants.{Refused};
 ghost use Rattle.records.specs.Answer.{Refuses};
-ghost use Rattle.records.specs.Format.{edition1};
+ghost use Rattle.records.specs.Format.{edition1, edition2};
 
 pub mod number;
 pub mod scan;
@@ -52,6 +52,24 @@ pub fn edition1() -> Edition
         mark,
         litres: 2,
         share: 4,
+    }
+}
+
+// Edition 2.
+pub fn edition2() -> Edition
+    ensures { λ r. ⌜ r ≡ edition2 ⌝ }
+{
+    let mark = Marks {
+        list: 0x324C,
+        site: 0x3253,
+        plan: 0x3250,
+        group: 0x5247,
+        share: 0x3353,
+    };
+    Edition {
+        mark,
+        litres: 4,
+        share: 8,
     }
 }
 

@@ -18,7 +18,7 @@ pub fn value(s: &[u8]) -> u64
     v
 }
 
-// Numbers of one, two, four and eight bytes at a place of `s`, without a loop.
+// Numbers of one, two, four, six and eight bytes at a place of `s`, without a loop.
 fn one(s: &[u8], at: usize) -> u64
     requires { ⌜ at + 1 ≤ length (now s) ⌝ }
     ensures { λ r. ⌜ Value (take 1 (drop at (now (s .entry)))) r ⌝ }
@@ -38,6 +38,13 @@ fn four(s: &[u8], at: usize) -> u64
     ensures { λ r. ⌜ Value (take 4 (drop at (now (s .entry)))) r ⌝ }
 {
     two(s, at) + 65536 * two(s, at + 2)
+}
+
+fn six(s: &[u8], at: usize) -> u64
+    requires { ⌜ at + 6 ≤ length (now s) ⌝ }
+    ensures { λ r. ⌜ Value (take 6 (drop at (now (s .entry)))) r ⌝ }
+{
+    four(s, at) + 4294967296 * two(s, at + 4)
 }
 
 fn eight(s: &[u8], at: usize) -> u64
@@ -60,6 +67,9 @@ pub fn field(s: &[u8], at: usize, w: usize) -> u64
     }
     if w == 8 {
         return eight(s, at);
+    }
+    if w == 6 {
+        return six(s, at);
     }
     value(&s[at..at + w])
 }

@@ -1,4 +1,4 @@
--- T, two own sites of 4, two sites of one pair, thresholds, and lists written out: histories with their replies, the rows of every call among them, and replies of wrong stores, which no model gives. Assumes nothing.
+-- T, two own sites of 4, two sites of one pair, thresholds, lists written out, and edition 2: histories with their replies, the rows of every call among them, and replies of wrong stores, which no model gives. Assumes nothing.
 use mathlib.Core.Path.{_≡_, refl, sym, ap, ap₂, _∙_, subst}
 use mathlib.Core.Logic.{inl, inr, ⊎-elim}
 use mathlib.Core.Bool.{Bool, true, _&&_}
@@ -27,10 +27,11 @@ use Rattle.density.proofs.AtLeast.{read-is}
 use Rattle.records.specs.Bytes.{Bytes, value, le}
 use Rattle.records.specs.Record.{records}
 use Rattle.records.specs.Values.{Plan}
-use Rattle.records.specs.Format.{edition1, planOf}
-use Rattle.records.specs.Write.{listBytes, planBytes}
-use Rattle.records.specs.Samples.{listT}
-use Rattle.records.proofs.Samples.{marked1}
+use Rattle.records.specs.declared.Edition.{Edition}
+use Rattle.records.specs.Format.{edition1, edition2, planOf}
+use Rattle.records.specs.Write.{listBytes, planBytes, Marked}
+use Rattle.records.specs.Samples.{listT, planT, listBig, planBig}
+use Rattle.records.proofs.Samples.{marked1, marked2}
 use Rattle.store.specs.declared.Request.{Request}
 use Rattle.store.specs.declared.Request.the-variants.{Load, Change, Add, Propose, Share, Depot, Difference, Written, AtLeast, ListWritten}
 use Rattle.store.specs.Calls.{Call, Reply, refused, done, shared, loaded, differ, wrote, reached}
@@ -38,11 +39,11 @@ use Rattle.judge.specs.Check.{True}
 use Rattle.store.specs.Model.{Model, emptyModel, Proposes, turned, turn, modelRows, proposalRows}
 use Rattle.held_state.specs.Held.{State}
 use Rattle.store.specs.State.{modelOf}
-use Rattle.store.specs.Examples.{call, reply, model, plansT, callsT, repliesT, sitesT, loadedT, plannedT, listO, callsO, repliesO, sitesO, loadedO, plannedO, listP, planP, callsP, repliesP, sitesP, loadedP, plannedP, callsR, repliesR, listM, planM, callsM, repliesM, sitesM, loadedM, plannedM, thresholdsM, setsM, listL, callsL, repliesL, addedL, nth, nthBuffer}
+use Rattle.store.specs.Examples.{call, reply, modelBy, model, plansT, callsT, repliesT, sitesT, loadedT, plannedT, listO, callsO, repliesO, sitesO, loadedO, plannedO, listP, planP, callsP, repliesP, sitesP, loadedP, plannedP, callsR, repliesR, listM, planM, callsM, repliesM, sitesM, loadedM, plannedM, thresholdsM, setsM, listL, callsL, repliesL, addedL, callsB, listB, repliesB, sitesB, loadedB, plannedB, addedB, nth, nthBuffer}
 use Rattle.store.specs.Trace.{start, then, History, Modelled, AllBytes, lastPassed}
 use Rattle.store.proofs.Plans.{true-of-rows, rows-of-true}
 use Rattle.store.proofs.OneModel.{one-model}
-use Rattle.store.proofs.History.{history1}
+use Rattle.store.proofs.History.{history}
 
 -- a plan laid out in these bytes, and true of a list whose depots are in range
 module _ (l : Listing) (g x : List ℕ) (t : TruePlan (network l) g x) where
@@ -56,14 +57,14 @@ module _ (l : Listing) (g x : List ℕ) (t : TruePlan (network l) g x) where
       }
 
 -- a proposal that a row refuses
-module _ (l : Listing) (p : Option Plan) (s : List ℕ) (n : ℕ) where
+module _ (e : Edition) (m : Marked e) (l : Listing) (p : Option Plan) (s : List ℕ) (n : ℕ) where
   abbrev b : Model
-  b = model (l .sites) p
+  b = modelBy e (l .sites) p
 
   refuses : T (depotsInRange l) → length (l .sites) ≤ 512 → firstRow (modelRows b (call Propose s [])) ≡ some n
       → Proposes b (call Propose s []) (reply (refused n) []) b
-  refuses ok few e =
-      inr (λ q t. Option·none-ne-some n (sym (rows-of-true edition1 l (valid l ok) s marked1 few q t) ∙ e), n, e, refl, refl)
+  refuses ok few h =
+      inr (λ q t. Option·none-ne-some n (sym (rows-of-true e l (valid l ok) s m few q t) ∙ h), n, h, refl, refl)
 
 -- ---- inputs are bytes
 
@@ -149,7 +150,7 @@ modelled-T =
     then loads-T
     (then accepts-T
     (then shares-T
-    (then depot-T-0 (then differs-T (then writes-T (then (refuses sitesT (plannedT .plan) (plansT 0x0B) 15 in-range-T (lit≤ tt) refuses-T) (then depot-T-1 start)))))))
+    (then depot-T-0 (then differs-T (then writes-T (then (refuses edition1 marked1 sitesT (plannedT .plan) (plansT 0x0B) 15 in-range-T (lit≤ tt) refuses-T) (then depot-T-1 start)))))))
 
 -- ---- own 0 and own 1 of 4
 
@@ -184,7 +185,7 @@ changes-O = refl
 
 modelled-O : Modelled edition1 2 callsO repliesO loadedO
 modelled-O =
-    then loads-O (then (refuses sitesO none (getD callsO 1 (call Load [] []) .input) 16 in-range-O (lit≤ tt) refuses-O) (then wants-O (then accepts-O (then changes-O (then wants-O start)))))
+    then loads-O (then (refuses edition1 marked1 sitesO none (getD callsO 1 (call Load [] []) .input) 16 in-range-O (lit≤ tt) refuses-O) (then wants-O (then accepts-O (then changes-O (then wants-O start)))))
 
 -- ---- (0,1) of 1 twice
 
@@ -390,39 +391,107 @@ modelled-L =
     (then empty-20
     (then loads-T (then loaded-out (then loaded-20 (then accepts-T (then planned-out (then adds-L (then added-out start))))))))
 
+-- ---- edition 2
+
+abbrev emptyB : Model
+emptyB = emptyModel edition2 2
+
+in-range-B : T (depotsInRange sitesB)
+unfolding depotsInRange all
+in-range-B = tt
+
+-- its list is of the other edition
+load-1 : turned emptyB (reply (refused 1) []) ≡ turn emptyB (call Load listT [])
+unfolding firstRow value records any
+load-1 = refl
+
+loads-B : turned loadedB (reply done []) ≡ turn emptyB (call Load listBig [])
+unfolding firstRow value records any
+loads-B = refl
+
+-- so is its plan
+plan-7 : firstRow (modelRows loadedB (call Propose planT [])) ≡ some 7
+unfolding firstRow value records sum any has weigh size network planRows groupsMeet groupsUnlisted sharesBroken shareBroken loadsUneven scaledLoad shareOf target groupsRise place union carrier groupSize groupLitres whole firstShare secondShare
+plan-7 = refl
+
+true-B : True edition2 sitesB (planOf edition2 1 planBig) planBig
+unfolding all firstRow value records sum any has weigh size network planRows groupsMeet groupsUnlisted sharesBroken shareBroken loadsUneven scaledLoad shareOf target groupsRise place union carrier groupSize groupLitres whole firstShare secondShare
+true-B = true-of-rows edition2 sitesB (valid sitesB in-range-B) planBig (are-bytes planBig tt) refl
+
+accepts-B : Proposes loadedB (call Propose planBig []) (reply done []) plannedB
+unfolding value records
+accepts-B = inl (planOf edition2 1 planBig, true-B, refl, refl)
+
+groups-B : Decomposition (network sitesB) (3 ∷ [])
+unfolding value records
+groups-B = true-B .groups
+
+shares-B : turned plannedB (reply (shared 70000 140000) []) ≡ turn plannedB (call (Share 0) [] [])
+unfolding firstRow network sum has weigh size place carrier groupSize whole
+shares-B = ap (λ (w : ℕ). turned plannedB (reply (shared 70000 w) [])) (site-whole (network sitesB) (valid sitesB in-range-B) (3 ∷ []) groups-B 0)
+
+depot-B : turned plannedB (reply (loaded 70000 2) []) ≡ turn plannedB (call (Depot 0) [] [])
+unfolding firstRow network any sum has weigh size place carrier groupSize groupLitres
+depot-B =
+    ap₂ (λ (w q : ℕ). turned plannedB (reply (loaded w q) [])) (depot-litres (network sitesB) (valid sitesB in-range-B) (3 ∷ []) groups-B 0)
+    (depot-size (network sitesB) (valid sitesB in-range-B) (3 ∷ []) groups-B 0)
+
+writes-B : turned plannedB (reply (wrote 25) (planBig ++ (7 ∷ []))) ≡ turn plannedB (call Written [] (replicate 26 7))
+unfolding firstRow planBytes le flatMap
+writes-B = refl
+
+adds-B : turned addedB (reply done []) ≡ turn plannedB (call (Add 1 1 4294967295) [] [])
+unfolding firstRow
+adds-B = refl
+
+added-B-out : WritesOut addedB (replicate 20 7) 20 listB
+unfolding firstRow listBytes le flatMap
+added-B-out = refl
+
+modelled-B : Modelled edition2 2 callsB repliesB addedB
+modelled-B =
+    then load-1
+    (then loads-B
+    (then (refuses edition2 marked2 sitesB none planT 7 in-range-B (lit≤ tt) plan-7)
+    (then accepts-B (then shares-B (then depot-B (then writes-B (then adds-B (then added-B-out start))))))))
+
 -- ---- the store's history has these replies
 
 -- what the model answers, the store answers on any table of two places
-has-history : (calls : List Call) (replies : List Reply) (b : Model) → Modelled edition1 2 calls replies b → AllBytes calls → (x y : Site)
-    → (s : State) × History edition1 (x ∷ y ∷ []) calls replies s × (modelOf s ≡ b)
-has-history calls replies b run bytes x y =
-    let (rs, s, h, exact) = history1 (x ∷ y ∷ []) calls bytes in
+has-history : {e : Edition} → Marked e → (calls : List Call) (replies : List Reply) (b : Model) → Modelled e 2 calls replies b → AllBytes calls → (x y : Site)
+    → (s : State) × History e (x ∷ y ∷ []) calls replies s × (modelOf s ≡ b)
+has-history {e} m calls replies b run bytes x y =
+    let (rs, s, h, exact) = history e m (x ∷ y ∷ []) calls bytes in
     let only = exact .only replies b run in
-    (s, subst (λ (rs : List Reply). History edition1 (x ∷ y ∷ []) calls rs s) (sym (only .0)) h, sym (only .1))
+    (s, subst (λ (rs : List Reply). History e (x ∷ y ∷ []) calls rs s) (sym (only .0)) h, sym (only .1))
 
 pub history-T : (x y : Site) → (s : State) × History edition1 (x ∷ y ∷ []) callsT repliesT s × (modelOf s ≡ plannedT)
 unfolding inputs all
-history-T = has-history callsT repliesT plannedT modelled-T (are-all callsT tt)
+history-T = has-history marked1 callsT repliesT plannedT modelled-T (are-all callsT tt)
 
 pub history-O : (x y : Site) → (s : State) × History edition1 (x ∷ y ∷ []) callsO repliesO s × (modelOf s ≡ loadedO)
 unfolding inputs all
-history-O = has-history callsO repliesO loadedO modelled-O (are-all callsO tt)
+history-O = has-history marked1 callsO repliesO loadedO modelled-O (are-all callsO tt)
 
 pub history-P : (x y : Site) → (s : State) × History edition1 (x ∷ y ∷ []) callsP repliesP s × (modelOf s ≡ plannedP 0 2)
 unfolding inputs all
-history-P = has-history callsP repliesP (plannedP 0 2) modelled-P (are-all callsP tt)
+history-P = has-history marked1 callsP repliesP (plannedP 0 2) modelled-P (are-all callsP tt)
 
 pub history-R : (x y : Site) → (s : State) × History edition1 (x ∷ y ∷ []) callsR repliesR s × (modelOf s ≡ plannedT)
 unfolding inputs all
-history-R = has-history callsR repliesR plannedT modelled-R (are-all callsR tt)
+history-R = has-history marked1 callsR repliesR plannedT modelled-R (are-all callsR tt)
 
 pub history-M : (x y : Site) → (s : State) × History edition1 (x ∷ y ∷ []) callsM repliesM s × (modelOf s ≡ plannedM)
 unfolding inputs all
-history-M = has-history callsM repliesM plannedM modelled-M (are-all callsM tt)
+history-M = has-history marked1 callsM repliesM plannedM modelled-M (are-all callsM tt)
 
 pub history-L : (x y : Site) → (s : State) × History edition1 (x ∷ y ∷ []) callsL repliesL s × (modelOf s ≡ addedL)
 unfolding inputs all
-history-L = has-history callsL repliesL addedL modelled-L (are-all callsL tt)
+history-L = has-history marked1 callsL repliesL addedL modelled-L (are-all callsL tt)
+
+pub history-B : (x y : Site) → (s : State) × History edition2 (x ∷ y ∷ []) callsB repliesB s × (modelOf s ≡ addedB)
+unfolding inputs all
+history-B = has-history marked2 callsB repliesB addedB modelled-B (are-all callsB tt)
 
 -- the proposal that passed last, by these calls and replies: of T its plan, of the own sites none after the change, of the pair the second, of the lists
 -- written out none after a site was added
@@ -529,3 +598,19 @@ module _ (rs : List Reply) (b : Model) (run : Modelled edition1 2 callsL rs b) w
   -- with a plan held it is still the list, and not the plan of 21 bytes, which would be refused in these 11
   pub not-the-plan : nth 6 rs ≡ refused 20 → ⊥
   not-the-plan h = let e : wrote 10 ≡ refused 20 = is-L 6 ∙ h in let z : _≡_ {A = ℕ} 0 1 = cc in omega arith
+
+module _ (rs : List Reply) (b : Model) (run : Modelled edition2 2 callsB rs b) where
+  is-B : (i : ℕ) → nth i repliesB ≡ nth i rs
+  is-B i = ap (nth i) (one-model modelled-B run .0)
+
+  -- a store of edition 2 takes no list of edition 1
+  pub not-the-other-list : nth 0 rs ≡ done → ⊥
+  not-the-other-list h = let e : refused 1 ≡ done = is-B 0 ∙ h in let z : _≡_ {A = ℕ} 0 1 = cc in omega arith
+
+  -- nor a plan of edition 1
+  pub not-the-other-plan : nth 2 rs ≡ done → ⊥
+  not-the-other-plan h = let e : refused 7 ≡ done = is-B 2 ∙ h in let z : _≡_ {A = ℕ} 0 1 = cc in omega arith
+
+  -- litres are not cut to 16 bits: 70,000 would become 4,464
+  pub not-cut : (w q : ℕ) → nth 5 rs ≡ loaded w q → (w ≡ 70000) × (q ≡ 2)
+  not-cut w q h = let e : loaded 70000 2 ≡ loaded w q = is-B 5 ∙ h in (cc, cc)

@@ -21,9 +21,9 @@ use Rattle.density.proofs.AtLeast.{by-is, every-is, at-least-zero, at-least-few
 use Rattle.records.specs.declared.Edition.{Edition}
 use Rattle.records.specs.Bytes.{Bytes}
 use Rattle.records.specs.Values.{Plan}
-use Rattle.records.specs.Format.{edition1, planOf}
+use Rattle.records.specs.Format.{edition1, edition2, planOf}
 use Rattle.records.specs.Write.{listBytes, planBytes, onto, All, Marked}
-use Rattle.records.proofs.Samples.{marked1}
+use Rattle.records.proofs.Samples.{marked1, marked2}
 use Rattle.store.specs.declared.Request.{Request}
 use Rattle.store.specs.declared.Request.the-variants.{Load, Change, Add, Propose, Share, Depot, Difference, Written, AtLeast, ListWritten}
 use Rattle.store.specs.Calls.{Call, Reply, Told, same, putOut, refused, done, shared, loaded, differ, wrote, reached}
@@ -352,6 +352,11 @@ one-reply {e} m {places} {calls} {replies} {b} run bytes c f =
 pub history1 : (table : List Site) (calls : List Call) → AllBytes calls
     → (replies : List Reply) × (s : State) × History edition1 table calls replies s × Exact edition1 table calls replies s
 history1 = history edition1 marked1
+
+-- and at edition 2
+pub history2 : (table : List Site) (calls : List Call) → AllBytes calls
+    → (replies : List Reply) × (s : State) × History edition2 table calls replies s × Exact edition2 table calls replies s
+history2 = history edition2 marked2
 
 -- It has one only.
 pub one-history : {e : Edition} {table : List Site} {calls : List Call} {rs rs' : List Reply} {s s' : State}

@@ -13,9 +13,8 @@ use Rattle.density.specs.declared.Site.{Site}
 use Rattle.density.specs.Network.{Listing, noSite, siteAt}
 use Rattle.records.specs.declared.Edition.{Edition}
 use Rattle.records.specs.Outcome.{passed}
-use Rattle.records.specs.Format.{edition1, sitesOf, readList}
+use Rattle.records.specs.Format.{sitesOf, readList}
 use Rattle.records.specs.Write.{listBytes, onto, All, Marked, Allowed, Good}
-use Rattle.records.proofs.Samples.{marked1}
 use Rattle.records.proofs.Records.{all-from}
 use Rattle.records.proofs.RoundTrip.{list-back, list-again}
 use Rattle.held_state.specs.Held.{State, listOf, corrupt}
@@ -126,8 +125,3 @@ pub history-list : {e : Edition} → Marked e → {table : List Site} {calls : L
 history-list m {s = s} h bytes named =
     let fit = run-sites h (record { edition = refl; litres = λ i l. absurd (let z : ⊥ = omega arith in z) }) bytes named in
     list-round-trip s (subst Marked (sym (fit .edition)) m) (fit .litres)
-
--- At edition 1 nothing is asked but that inputs are bytes and litres have 16 bits.
-pub history-list1 : {table : List Site} {calls : List Call} {replies : List Reply} {s : State} → History edition1 table calls replies s → AllBytes calls
-    → AllNamed (256 ^ 2) calls → ListRoundTrip s
-history-list1 = history-list marked1

@@ -1,20 +1,22 @@
--- The step of a state by its row: what is refused and what is granted; a list that is loaded. Assumes nothing.
+-- The step of a state by its row: what is refused and what is granted; a list that is loaded; a list and a plan of the other edition. Assumes nothing.
 use mathlib.Core.Path.{_≡_, refl, sym, ap, _∙_}
-use mathlib.Core.Bool.{true, false, and-false}
+use mathlib.Core.Bool.{true, false, and-false, or-true}
 use mathlib.Core.List.{_++_}
 use mathlib.Core.Option.{Option, none, some}
 use Prim.Native.Nat.{ℕ, _≤_}
 use native.Mathlib.Omega.{arith}
+use lib.Dec.{ltb}
 use lib.ListN.{length, drop}
 use Rattle.density.specs.Network.{Listing}
 use Rattle.density.specs.Rows.{firstRow}
+use Rattle.records.specs.Record.{wrongMark}
 use Rattle.records.specs.Outcome.{refused, passed, settle as outcome}
 use Rattle.records.specs.Format.{sitesOf, listRows, readList}
 use Rattle.records.proofs.RoundTrip.{list-few}
 use Rattle.held_state.specs.Held.{State, corrupt}
 use Rattle.held_state.proofs.Intact.{listing}
 use Rattle.store.specs.declared.Request.{Request}
-use Rattle.store.specs.declared.Request.the-variants.{Load}
+use Rattle.store.specs.declared.Request.the-variants.{Load, Propose}
 use Rattle.store.specs.Calls.{Call, Reply, same, done}
 use Rattle.store.specs.State.{Done, modelOf, triesZero, rowFor, refusal, bare, next, effectOf, settle, step, RefusedBy}
 use Rattle.store.specs.Trace.{Steps}
@@ -76,3 +78,13 @@ module _ (s : State) (c : Call) where
       not-refused : (o : Option ℕ) → settle o s c (effectOf s c (c .request)) .reply .answer ≡ done → o ≡ none
       not-refused none e = refl
       not-refused (some n) e = absurd (let z : _≡_ {A = ℕ} 0 1 = cc in omega arith)
+
+-- ---- document 02, c: "A desk takes lists and plans of its own edition only; row 1 or row 7 refuses the other"
+
+pub other-list : (s : State) (c : Call) → c .request ≡ Load → wrongMark (s .edition .mark .list) (c .input) ≡ true → refusal s c ≡ some 1
+unfolding firstRow
+other-list s c k w = rw (k, w, or-true (ltb (length (c .input)) 4)) refl
+
+pub other-plan : (s : State) (c : Call) → c .request ≡ Propose → corrupt s ≡ false → wrongMark (s .edition .mark .plan) (c .input) ≡ true → refusal s c ≡ some 7
+unfolding firstRow
+other-plan s c k h w = rw (k, h, w, or-true (ltb (length (c .input)) 5)) refl

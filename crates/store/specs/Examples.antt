@@ -1,5 +1,5 @@
 -- Document 01: histories of T, of two own sites of 4 and of two sites of one pair on a table of two places, with their replies, the rows of every call
--- among them. Document 02, a: a history of thresholds; b: one of lists written out.
+-- among them. Document 02, a: a history of thresholds; b: one of lists written out; c: one of edition 2.
 use mathlib.Core.List.{List, [], _∷_, _++_, map}
 use mathlib.Core.Option.{Option, none, some}
 use Prim.Native.Nat.{ℕ}
@@ -9,8 +9,9 @@ use Rattle.density.specs.declared.Site.{Site}
 use Rattle.density.specs.Network.{Listing}
 use Rattle.density.specs.Examples.{pair, own}
 use Rattle.records.specs.Values.{Plan}
-use Rattle.records.specs.Format.{edition1}
-use Rattle.records.specs.Samples.{listT}
+use Rattle.records.specs.declared.Edition.{Edition}
+use Rattle.records.specs.Format.{edition1, edition2}
+use Rattle.records.specs.Samples.{listT, planT, listBig, planBig}
 use Rattle.judge.specs.Refusals.{group, share}
 use Rattle.store.specs.declared.Request.{Request}
 use Rattle.store.specs.declared.Request.the-variants.{Load, Change, Add, Propose, Share, Depot, Difference, Written, AtLeast, ListWritten}
@@ -23,8 +24,11 @@ call q i o = record { request = q; input = i; buffer = o }
 abbrev pub reply : Told → List ℕ → Reply
 reply a o = record { answer = a; buffer = o }
 
+abbrev pub modelBy : Edition → List Site → Option Plan → Model
+modelBy e l p = record { edition = e; places = 2; list = record { sites = l }; plan = p }
+
 abbrev pub model : List Site → Option Plan → Model
-model l p = record { edition = edition1; places = 2; list = record { sites = l }; plan = p }
+model l p = modelBy edition1 l p
 
 -- ---- T: its list, its plan, and the same with s = 11, where both shares add up to the whole and are not level
 
@@ -234,6 +238,53 @@ repliesL =
 
 abbrev pub addedL : Model
 addedL = model (pair 0 1 10 ∷ pair 0 1 513 ∷ []) none
+
+-- ---- edition 2: "A desk takes lists and plans of its own edition only; row 1 or row 7 refuses the other", and "its litres come as a 32-bit figure"
+
+abbrev pub callsB : List Call
+callsB =
+    call Load listT []
+    ∷ call Load listBig []
+    ∷ call Propose planT []
+    ∷ call Propose planBig []
+    ∷ call (Share 0) [] []
+    ∷ call (Depot 0) [] []
+    ∷ call Written [] (replicate 26 7)
+    ∷ call (Add 1 1 4294967295) [] []
+    ∷ call ListWritten [] (replicate 20 7)
+    ∷ []
+
+-- the list with the site that was added
+abbrev pub listB : List ℕ
+listB =
+    0x4C ∷ 0x32 ∷ 0x02 ∷ 0x00
+    ∷ 0x53 ∷ 0x32 ∷ 0x00 ∷ 0x01 ∷ 0x70 ∷ 0x11 ∷ 0x01 ∷ 0x00
+    ∷ 0x53 ∷ 0x32 ∷ 0x01 ∷ 0x01 ∷ 0xFF ∷ 0xFF ∷ 0xFF ∷ 0xFF ∷ []
+
+abbrev pub repliesB : List Reply
+repliesB =
+    reply (refused 1) []
+    ∷ reply done []
+    ∷ reply (refused 7) []
+    ∷ reply done []
+    ∷ reply (shared 70000 140000) []
+    ∷ reply (loaded 70000 2) []
+    ∷ reply (wrote 25) (planBig ++ (7 ∷ []))
+    ∷ reply done []
+    ∷ reply (wrote 20) listB
+    ∷ []
+
+abbrev pub sitesB : Listing
+sitesB = record { sites = pair 0 1 70000 ∷ [] }
+
+abbrev pub loadedB : Model
+loadedB = modelBy edition2 (sitesB .sites) none
+
+abbrev pub plannedB : Model
+plannedB = modelBy edition2 (sitesB .sites) (some (record { groups = 3 ∷ []; shares = 70000 ∷ [] }))
+
+abbrev pub addedB : Model
+addedB = modelBy edition2 (pair 0 1 70000 ∷ own 1 4294967295 ∷ []) none
 
 -- the answer to the i-th call, and its buffer
 abbrev pub nth : ℕ → List Reply → Told

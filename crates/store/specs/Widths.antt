@@ -1,4 +1,4 @@
--- Document 01, "Entry points", the desk: widths of figures. "Litres in a change or an added site are a 16-bit figure".
+-- Document 01, "Entry points", the desk: widths of figures. "Litres in a change or an added site are a 16-bit figure"; document 02, c: of edition 2 "its litres come as a 32-bit figure".
 use mathlib.Core.Path.{_≡_}
 use mathlib.Core.List.{List}
 use Prim.Native.Nat.{ℕ, _<_, _≤_, _^_}

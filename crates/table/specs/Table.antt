@@ -19,3 +19,7 @@ blank x = replicate 512 x
 -- "A list has 0 to 512 sites": the table's first 512 places or, where it has fewer, all of them and blank ones after them
 abbrev pub heldOf : {X : Type 0} → X → List X → List X
 heldOf x table = overlay (min (length table) 512) table (blank x)
+
+-- a table of so many places that stands in front in an array of 600: it has at most all of these
+abbrev pub placesOn : ℕ → ℕ
+placesOn places = min places 600

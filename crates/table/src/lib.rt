@@ -1,14 +1,15 @@
 // A table of sites that the caller lends: thin functions over it, and a copy of it by value.
-// A lent table is narrow by type: that of edition 1 has sites with two-byte litres.
+// A lent table has its edition's widths by type: that of edition 1 has sites with two-byte litres, that of edition 2 (`wide`) sites as the definition has them.
 ghost use mathlib.Core.Path.{_≡_};
 ghost use mathlib.Core.List.{map};
 ghost use Prim.Native.Nat.{_<_, _≤_, min};
 ghost use lib.ListN.{length, getD, set};
-ghost use Rattle.table.specs.Table.{between, heldOf};
+ghost use Rattle.table.specs.Table.{between, heldOf, placesOn};
 ghost use Rattle.table.specs.Widths.{noSite1, widened, LitresFit};
 use density::Site;
 
 pub mod values;
+pub mod wide;
 
 // A site of edition 1.
 pub struct Site1 {
@@ -38,6 +39,13 @@ pub fn capacity(places: usize) -> usize
     ensures { λ r. ⌜ r ≡ min places 512 ⌝ }
 {
     if places < 512 { places } else { 512 }
+}
+
+// How many places a table of so many has in an array of 600.
+pub fn places_on(places: usize) -> usize
+    ensures { λ r. ⌜ r ≡ placesOn places ⌝ }
+{
+    if places < 600 { places } else { 600 }
 }
 
 // Copy in: the table by value, as many places as can hold sites, and blank places after them.

@@ -1,7 +1,7 @@
--- Laws of numbers that are written by halves. Assumes nothing.
-use Prim.Native.Nat.{ℕ, zero, suc, _+_, _/_, _%_, _<_, _≤_, _^_}
+-- Laws of numbers that are written by halves, and of a site as one number. Assumes nothing.
+use Prim.Native.Nat.{ℕ, zero, suc, _+_, _*_, _/_, _%_, _<_, _≤_, _^_}
 use mathlib.Core.List.{List, [], _∷_, _++_}
-use mathlib.Core.Path.{_≡_, refl, ap, _∙_}
+use mathlib.Core.Path.{_≡_, refl, ap, ap₂, _∙_}
 use lib.ListN.{length, set, length-set}
 use lib.Seq.{set-split}
 use native.Mathlib.Nat.{zero-add, suc-add, pow-succ', div-one, div-div-eq-div-mul}
@@ -38,3 +38,20 @@ pub by-halves : (m n at x : ℕ) (d : List ℕ) {half last : List ℕ} → at �
 by-halves m n at x d h low high =
     let rest = le n (x / 256 ^ m) in
     high ∙ ap (place (at + m) rest) low ∙ place-place at m (le m x) rest d h (length-le m x) ∙ ap (λ (p : List ℕ). place at p d) (le-join m n x)
+
+-- the bytes of the number that a site's figures make
+module _ (f s l x : ℕ) (a : f < 256) (b : s < 256) (e : x ≡ f + 256 * s + 65536 * l) where
+  low : x % 256 ≡ f % 256
+  low = omega (arith, a, b, e)
+
+  middle : x / 256 % 256 ≡ s % 256
+  middle = omega (arith, a, b, e)
+
+  high : x / 256 / 256 ≡ l
+  high = omega (arith, a, b, e)
+
+  pub body-bytes : (w : ℕ) → le (2 + w) x ≡ le 1 f ++ (le 1 s ++ le w l)
+  unfolding le
+  body-bytes w =
+      let k : 2 + w ≡ suc (suc w) = omega arith in
+      ap (λ (m : ℕ). le m x) k ∙ ap₂ (λ (c : ℕ) (d : List ℕ). c ∷ d) low (ap₂ (λ (c : ℕ) (d : List ℕ). c ∷ d) middle (ap (le w) high))

@@ -6,15 +6,15 @@ use records::PlanArray;
 use records::Wrote;
 use records::number;
 ghost use mathlib.Core.Path.{_≡_};
-ghost use mathlib.Core.List.{flatMap};
-ghost use Prim.Native.Nat.{_≤_, _+_, _*_};
+ghost use mathlib.Core.List.{_++_, flatMap};
+ghost use Prim.Native.Nat.{ℕ, _≤_, _+_, _*_};
 ghost use lib.ListN.{length, take};
 ghost use Rattle.records.specs.Bytes.{le};
 ghost use Rattle.records.specs.Values.{listing, planIn};
 ghost use Rattle.records.specs.Write.{place, onto, markBytes, siteBytes, listBytes, planBytes, Written};
 ghost use Rattle.records.specs.Format.{siteSize};
 
-// Puts the two, four or eight low bytes of `x` at a place of `out`, without a loop.
+// Puts the two, four, six or eight low bytes of `x` at a place of `out`, without a loop.
 fn put_two(out: &mut [u8], at: usize, x: u64)
     requires { ⌜ at + 2 ≤ length (now out) ⌝ }
     ensures { λ _. ⌜ now (out .exit) ≡ place at (le 2 x) (now (out .entry)) ⌝ }
@@ -29,6 +29,14 @@ fn put_four(out: &mut [u8], at: usize, x: u64)
 {
     put_two(out, at, x);
     put_two(out, at + 2, x / 65536);
+}
+
+fn put_six(out: &mut [u8], at: usize, x: u64)
+    requires { ⌜ at + 6 ≤ length (now out) ⌝ }
+    ensures { λ _. ⌜ now (out .exit) ≡ place at (le 6 x) (now (out .entry)) ⌝ }
+{
+    put_four(out, at, x);
+    put_two(out, at + 4, x / 4294967296);
 }
 
 fn put_eight(out: &mut [u8], at: usize, x: u64)
@@ -52,6 +60,9 @@ pub fn number_at(out: &mut [u8], at: usize, w: usize, x: u64)
     }
     if w == 8 {
         return put_eight(out, at, x);
+    }
+    if w == 6 {
+        return put_six(out, at, x);
     }
     number::put(&mut out[at..at + w], x);
 }
@@ -110,16 +121,20 @@ pub fn plan(e: Edition, p: PlanArray, n: usize, out: &mut [u8]) -> Wrote
     plan_of(e, &groups[..p.count], &shares[..n], out)
 }
 
+// A site's depots and litres as one number, of which the low bytes are its depots' and then its litres'.
+pub fn body_of(x: Site) -> u64
+    ensures { λ r. ⌜ ((w : ℕ) → le (2 + w) r ≡ le 1 (x .first) ++ (le 1 (x .second) ++ le w (x .litres))) ⌝ }
+{
+    (x.first as u64) + 256 * (x.second as u64) + 65536 * (x.litres as u64)
+}
+
 // Puts a site's record at a place of `out`.
 pub fn site_at(e: Edition, out: &mut [u8], at: usize, x: Site)
     requires { ⌜ at + siteSize e ≤ length (now out) ⌝ }
     ensures { λ _. ⌜ now (out .exit) ≡ place at (siteBytes e x) (now (out .entry)) ⌝ }
 {
-    let w = e.litres;
-    number_at(out, at, 2, e.mark.site);
-    number_at(out, at + 2, 1, x.first as u64);
-    number_at(out, at + 3, 1, x.second as u64);
-    number_at(out, at + 4, w, x.litres as u64);
+    let w = 2 + e.litres;
+    record_at(out, at, e.mark.site, w, body_of(x));
 }
 
 // Writes the records of the first `n` sites.

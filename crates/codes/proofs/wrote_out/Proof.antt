@@ -2,7 +2,7 @@
 use mathlib.Core.List.{[]}
 use mathlib.Core.Path.{_∙_}
 use Rattle.signed.proofs.Signed.{read-back}
-use Rattle.codes.proofs.DeskCodes.{no-bytes, is-store, no-store, asks, not-written, wrote-out, length-held}
+use Rattle.codes.proofs.DeskCodes.{no-bytes, is-store, no-store, not-written, wrote-out, length-held}
 use borrow.Author.Needs.{needs}
 use Rattle.codes.proofs.wrote_out.Statement.{statement}
 use Rattle.codes.proofs.wrote_out.Tie as tie
@@ -11,28 +11,23 @@ use Rattle.codes.proofs.wrote_out.Tie as tie
 abbrev entry : tie.Else1 → tie.Start
 entry tested = let known = tested .before .before .before in known .before .before
 
-is-store1-requires : tie.Need-is-store1-requires
-is-store1-requires c κs = search needs
+is-store-requires : tie.Need-is-store-requires
+is-store-requires c κs = search needs
 
 returns : tie.Need-returns
-returns c = not-written (no-store (c .before .is-store1 .ensures) (c .if1 .taken)) no-bytes
-
-edition1-requires : tie.Need-edition1-requires
-edition1-requires c κs = search needs
+returns c = not-written (no-store (c .before .is-store .ensures) (c .if1 .taken)) no-bytes
 
 look-requires : tie.Need-look-requires
 look-requires c κs =
-    let tested = c .before .before in
+    let tested = c .before in
     let start = entry tested in
-    let a = asks (start .args .store .now) (c .before .edition1 .ensures) (is-store (tested .before .is-store1 .ensures) (tested .if1 .left)) in
-    (a .0, a .1, start .pre)
+    (start .pre .0, is-store (tested .before .is-store .ensures) (tested .if1 .left), start .pre .1)
 
 written-requires : tie.Need-written-requires
 written-requires c κs =
     let looked = c .before .before in
-    let tested = looked .before .before .before in
-    let start = entry tested in
-    length-held (looked .look .ensures [] no-bytes) (start .good .1 .1 .1 .0 .1)
+    let start = entry (looked .before .before) in
+    length-held (looked .look .ensures [] no-bytes) (start .good .1 .1 .1 .1 .0 .1)
 
 same-length : tie.Need-same-length
 same-length c = search needs
@@ -40,18 +35,16 @@ same-length c = search needs
 returns-2 : tie.Need-returns-2
 returns-2 c =
     let looked = c .before .before .before in
-    let edition = looked .before .before in
-    let tested = edition .before in
-    wrote-out (is-store (tested .before .is-store1 .ensures) (tested .if1 .left)) (rw (edition .edition1 .ensures) at (looked .look .ensures [] no-bytes))
+    let tested = looked .before .before in
+    wrote-out (is-store (tested .before .is-store .ensures) (tested .if1 .left)) (looked .look .ensures [] no-bytes)
     (read-back (c .written .ok) ∙ c .written .ensures)
 
 pub wrote-out-spec : {M : Type 1} → statement M
 wrote-out-spec =
     tie.close
     (tie.spec
-    is-store1-requires
+    is-store-requires
     returns
-    edition1-requires
     look-requires
     written-requires
     same-length

@@ -9,7 +9,7 @@ use Rattle.commands.proofs.Reading.{number-is, number-within}
 use Rattle.commands.specs.Commands.{ofDepot, ofLitres}
 use Rattle.commands.specs.declared.Command.{Command}
 use Rattle.commands.specs.declared.Command.the-variants.{Call}
-use Rattle.edition1.specs.declared.Request1.the-variants as request
+use Rattle.store.specs.declared.Request.the-variants as request
 use Rattle.commands.proofs.add.Statement.{statement}
 use Rattle.commands.proofs.add.Tie as tie
 
@@ -20,7 +20,7 @@ start read = let known = read .before .before in known .before .before
 abbrev first-told : tie.After-decimal2 → tie.After-f
 first-told read = read .before .before
 
-abbrev second-told : tie.After-decimal3 → tie.After-s
+abbrev second-told : tie.After-litres-of → tie.After-s
 second-told read = read .before .before
 
 abbrev first-read : tie.After-f → tie.After-decimal
@@ -31,7 +31,7 @@ second-read told = told .before .before
 
 -- the command, where the depots so far are numbers
 abbrev ofSecond : tie.Start → ℕ → ℕ → Command
-ofSecond s f d = ofLitres (now (s .args .litres)) (λ w. Call (request.Add f d w))
+ofSecond s f d = ofLitres (s .args .most) (now (s .args .litres)) (λ w. Call (request.Add f d w))
 
 abbrev ofFirst : tie.Start → ℕ → Command
 ofFirst s f = ofDepot (now (s .args .second)) (ofSecond s f)
@@ -87,8 +87,8 @@ returns-2 c =
     let first = first-told read in
     number-is (ofSecond (start (first-read first)) (first .f .given .0 .0)) (c .enum-told2 .given .1) (read .decimal2 .ensures) ∙ first-known first
 
-decimal-requires-3 : tie.Need-decimal-requires-3
-decimal-requires-3 c κs = search needs
+litres-of-requires : tie.Need-litres-of-requires
+litres-of-requires c κs = search needs
 
 enum-known-w : tie.Need-enum-known-w
 enum-known-w c = search needs
@@ -101,14 +101,9 @@ returns-3 c =
     let read = c .before .before in
     let second = second-told read in
     let first = first-told (second-read second) in
-    number-is (λ w. Call (request.Add (first .f .given .0 .0) (second .s .given .0 .0) w)) (c .enum-told3 .given .1) (read .decimal3 .ensures) ∙ second-known second
+    number-is (λ w. Call (request.Add (first .f .given .0 .0) (second .s .given .0 .0) w)) (c .enum-told3 .given .1) (read .litres-of .ensures) ∙ second-known second
 
 -- both bounds at either depot: were the depots exchanged, the command would be refused and not these
-cast-t10 : tie.Need-cast-t10
-cast-t10 c =
-    let second = second-told (c .before .before .before) in
-    record { fits = omega (arith, first-low (first-told (second-read second)), second-low second) }
-
 cast-t11 : tie.Need-cast-t11
 cast-t11 c =
     let second = second-told (c .before .before .before) in
@@ -116,10 +111,15 @@ cast-t11 c =
 
 cast-t12 : tie.Need-cast-t12
 cast-t12 c =
+    let second = second-told (c .before .before .before) in
+    record { fits = omega (arith, first-low (first-told (second-read second)), second-low second) }
+
+cast-t13 : tie.Need-cast-t13
+cast-t13 c =
     let litres = c .before .w .given in
     let read = c .before .before .before in
     let s = start (first-read (first-told (second-read (second-told read)))) in
-    let m = number-within _ (litres .0 .0) (now (s .args .litres)) (litres .1) (read .decimal3 .ensures) in
+    let m = number-within _ (litres .0 .0) (now (s .args .litres)) (litres .1) (read .litres-of .ensures) in
     record { fits = omega arith }
 
 returns-4 : tie.Need-returns-4
@@ -127,7 +127,7 @@ returns-4 c =
     let read = c .before .before .before in
     let second = second-told read in
     let first = first-told (second-read second) in
-    number-is (λ w. Call (request.Add (first .f .given .0 .0) (second .s .given .0 .0) w)) (c .before .w .given .1) (read .decimal3 .ensures) ∙ second-known second
+    number-is (λ w. Call (request.Add (first .f .given .0 .0) (second .s .given .0 .0) w)) (c .before .w .given .1) (read .litres-of .ensures) ∙ second-known second
 
 pub add-spec : {M : Type 1} → statement M
 add-spec =
@@ -141,11 +141,11 @@ add-spec =
     enum-known-s
     enum-told-2
     returns-2
-    decimal-requires-3
+    litres-of-requires
     enum-known-w
     enum-told-3
     returns-3
-    cast-t10
     cast-t11
     cast-t12
+    cast-t13
     returns-4)

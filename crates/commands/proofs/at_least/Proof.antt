@@ -5,7 +5,7 @@ use native.Mathlib.Omega.{arith}
 use denote.Ref.{now}
 use Rattle.commands.proofs.Reading.{number-is, number-within}
 use Rattle.commands.specs.declared.Command.the-variants.{Call}
-use Rattle.edition1.specs.declared.Request1.the-variants as request
+use Rattle.store.specs.declared.Request.the-variants as request
 use Rattle.commands.proofs.at_least.Statement.{statement}
 use Rattle.commands.proofs.at_least.Tie as tie
 

@@ -9,7 +9,7 @@ use Rattle.commands.proofs.Reading.{number-is, number-within}
 use Rattle.commands.specs.Commands.{ofSite, ofLitres}
 use Rattle.commands.specs.declared.Command.{Command}
 use Rattle.commands.specs.declared.Command.the-variants.{Call}
-use Rattle.edition1.specs.declared.Request1.the-variants as request
+use Rattle.store.specs.declared.Request.the-variants as request
 use Rattle.commands.proofs.change.Statement.{statement}
 use Rattle.commands.proofs.change.Tie as tie
 
@@ -19,7 +19,7 @@ start read = read .before .before .before
 
 -- the command, where the site is a number
 abbrev ofFirst : tie.Start → ℕ → Command
-ofFirst s i = ofLitres (now (s .args .litres)) (λ w. Call (request.Change i w))
+ofFirst s i = ofLitres (s .args .most) (now (s .args .litres)) (λ w. Call (request.Change i w))
 
 -- the site is a number
 site-known : (p : tie.After-i) → let s = start (p .before .before) in ofFirst s (p .i .given .0 .0) ≡ ofSite (now (s .args .site)) (ofFirst s)
@@ -41,8 +41,8 @@ returns c =
     let read = c .before .before in
     number-is (ofFirst (start read)) (c .enum-told .given .1) (read .decimal .ensures)
 
-decimal-requires-2 : tie.Need-decimal-requires-2
-decimal-requires-2 c κs = search needs
+litres-of-requires : tie.Need-litres-of-requires
+litres-of-requires c κs = search needs
 
 enum-known-w : tie.Need-enum-known-w
 enum-known-w c = search needs
@@ -54,22 +54,22 @@ returns-2 : tie.Need-returns-2
 returns-2 c =
     let again = c .before .before in
     let known = again .before .before in
-    number-is (λ w. Call (request.Change (known .i .given .0 .0) w)) (c .enum-told2 .given .1) (again .decimal2 .ensures) ∙ site-known known
+    number-is (λ w. Call (request.Change (known .i .given .0 .0) w)) (c .enum-told2 .given .1) (again .litres-of .ensures) ∙ site-known known
 
-cast-t8 : tie.Need-cast-t8
-cast-t8 c =
+cast-t9 : tie.Need-cast-t9
+cast-t9 c =
     let litres = c .before .w .given in
     let again = c .before .before .before in
     let known = again .before .before in
     let s = start (known .before .before) in
-    let m = number-within _ (litres .0 .0) (now (s .args .litres)) (litres .1) (again .decimal2 .ensures) in
+    let m = number-within _ (litres .0 .0) (now (s .args .litres)) (litres .1) (again .litres-of .ensures) in
     record { fits = omega arith }
 
 returns-3 : tie.Need-returns-3
 returns-3 c =
     let again = c .before .before .before in
     let known = again .before .before in
-    number-is (λ w. Call (request.Change (known .i .given .0 .0) w)) (c .before .w .given .1) (again .decimal2 .ensures) ∙ site-known known
+    number-is (λ w. Call (request.Change (known .i .given .0 .0) w)) (c .before .w .given .1) (again .litres-of .ensures) ∙ site-known known
 
 pub change-spec : {M : Type 1} → statement M
 change-spec =
@@ -79,9 +79,9 @@ change-spec =
     enum-known-i
     enum-told
     returns
-    decimal-requires-2
+    litres-of-requires
     enum-known-w
     enum-told-2
     returns-2
-    cast-t8
+    cast-t9
     returns-3)

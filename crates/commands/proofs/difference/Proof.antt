@@ -9,7 +9,7 @@ use Rattle.commands.proofs.Reading.{number-is, number-within}
 use Rattle.commands.specs.Commands.{ofDepot}
 use Rattle.commands.specs.declared.Command.{Command}
 use Rattle.commands.specs.declared.Command.the-variants.{Call}
-use Rattle.edition1.specs.declared.Request1.the-variants as request
+use Rattle.store.specs.declared.Request.the-variants as request
 use Rattle.commands.proofs.difference.Statement.{statement}
 use Rattle.commands.proofs.difference.Tie as tie
 

@@ -26,15 +26,15 @@ slice-aggregate-same-2 c = search needs
 same-requires-2 : tie.Need-same-requires-2
 same-requires-2 c κs = search needs
 
-given-requires : tie.Need-given-requires
-given-requires c κs = search needs
+table2-requires : tie.Need-table2-requires
+table2-requires c κs = search needs
 
 returns-2 : tie.Need-returns-2
 unfolding oneWord
 returns-2 c =
     let at = c .before .before in
     let first = at .before .before in
-    simp (same-no (first .before .same .ensures) (first .if1 .left), same-yes (at .same2 .ensures) (c .before .if2 .taken)) (c .given .ensures)
+    simp (same-no (first .before .same .ensures) (first .if1 .left), same-yes (at .same2 .ensures) (c .before .if2 .taken)) (c .table2 .ensures)
 
 slice-aggregate-same-3 : tie.Need-slice-aggregate-same-3
 slice-aggregate-same-3 c = search needs
@@ -42,8 +42,8 @@ slice-aggregate-same-3 c = search needs
 same-requires-3 : tie.Need-same-requires-3
 same-requires-3 c κs = search needs
 
-given-requires-2 : tie.Need-given-requires-2
-given-requires-2 c κs = search needs
+given-requires : tie.Need-given-requires
+given-requires c κs = search needs
 
 returns-3 : tie.Need-returns-3
 unfolding oneWord
@@ -53,19 +53,40 @@ returns-3 c =
     let first = second .before .before .before in
     simp
     (same-no (first .before .same .ensures) (first .if1 .left), same-no (second .before .same2 .ensures) (second .if2 .left), same-yes (at .same3 .ensures) (c .before .if3 .taken))
+    (c .given .ensures)
+
+slice-aggregate-same-4 : tie.Need-slice-aggregate-same-4
+slice-aggregate-same-4 c = search needs
+
+same-requires-4 : tie.Need-same-requires-4
+same-requires-4 c κs = search needs
+
+given-requires-2 : tie.Need-given-requires-2
+given-requires-2 c κs = search needs
+
+returns-4 : tie.Need-returns-4
+unfolding oneWord
+returns-4 c =
+    let at = c .before .before in
+    let third = at .before .before in
+    let second = third .before .before .before in
+    let first = second .before .before .before in
+    simp
+    (same-no (first .before .same .ensures) (first .if1 .left), same-no (second .before .same2 .ensures) (second .if2 .left), same-no (third .before .same3 .ensures) (third .if3 .left), same-yes (at .same4 .ensures) (c .before .if4 .taken))
     (c .given2 .ensures)
 
 reads-requires : tie.Need-reads-requires
 reads-requires c κs = search needs
 
-returns-4 : tie.Need-returns-4
+returns-5 : tie.Need-returns-5
 unfolding oneWord
-returns-4 c =
-    let third = c .before in
+returns-5 c =
+    let fourth = c .before in
+    let third = fourth .before .before .before in
     let second = third .before .before .before in
     let first = second .before .before .before in
     simp
-    (same-no (first .before .same .ensures) (first .if1 .left), same-no (second .before .same2 .ensures) (second .if2 .left), same-no (third .before .same3 .ensures) (third .if3 .left))
+    (same-no (first .before .same .ensures) (first .if1 .left), same-no (second .before .same2 .ensures) (second .if2 .left), same-no (third .before .same3 .ensures) (third .if3 .left), same-no (fourth .before .same4 .ensures) (fourth .if4 .left))
     (c .reads .ensures)
 
 pub one-word-spec : {M : Type 1} → statement M
@@ -78,11 +99,15 @@ one-word-spec =
     returns
     slice-aggregate-same-2
     same-requires-2
-    given-requires
+    table2-requires
     returns-2
     slice-aggregate-same-3
     same-requires-3
-    given-requires-2
+    given-requires
     returns-3
+    slice-aggregate-same-4
+    same-requires-4
+    given-requires-2
+    returns-4
     reads-requires
-    returns-4)
+    returns-5)

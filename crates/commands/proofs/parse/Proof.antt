@@ -15,7 +15,9 @@ word-requires c κs = search needs
 
 returns : tie.Need-returns
 returns c =
-    ap ofWords (sym (words-none (now (c .before .before .before .args .line)) (now (c .before .word .result)) (c .before .word .ensures) (c .if1 .taken)))
+    let read = c .before in
+    let s = read .before .before in
+    ap (ofWords (s .args .most)) (sym (words-none (now (s .args .line)) (now (read .word .result)) (read .word .ensures) (c .if1 .taken)))
 
 shared-slice-read-if2 : tie.Need-shared-slice-read-if2
 shared-slice-read-if2 c = search needs

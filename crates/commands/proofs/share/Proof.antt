@@ -3,7 +3,7 @@
 use borrow.Author.Needs.{needs}
 use Rattle.commands.proofs.Reading.{number-is}
 use Rattle.commands.specs.declared.Command.the-variants.{Call}
-use Rattle.edition1.specs.declared.Request1.the-variants as request
+use Rattle.store.specs.declared.Request.the-variants as request
 use Rattle.commands.proofs.share.Statement.{statement}
 use Rattle.commands.proofs.share.Tie as tie
 

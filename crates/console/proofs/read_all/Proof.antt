@@ -28,7 +28,10 @@ loop-less : tie.Need-loop-less Inv-loop μ-loop
 loop-less c = omega arith
 
 loop-again : tie.Need-loop-again Inv-loop μ-loop
-loop-again c = c .before .before .read-piece .kept .1 .0 ∙ c .before .before .before .before .before .before .loop .inv
+loop-again c =
+    let read = c .before .before in
+    let again = read .before .before .before in
+    read .read-piece .kept .1 .0 ∙ again .before .loop .inv
 
 same-length : tie.Need-same-length Inv-loop μ-loop
 same-length c = omega arith

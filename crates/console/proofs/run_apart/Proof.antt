@@ -1,7 +1,5 @@
 -- `console::run_apart` is safe and ends: a buffer is within its bound.
 -- Assumes nothing.
-use denote.Ref.{now}
-use Rattle.commands.proofs.Reading.{make-within}
 use borrow.Author.Needs.{needs}
 use Rattle.console.proofs.run_apart.Statement.{statement}
 use Rattle.console.proofs.run_apart.Tie as tie
@@ -29,7 +27,9 @@ rest-requires-2 c κs = search needs
 
 run-make-requires : tie.Need-run-make-requires
 run-make-requires c κs =
-    make-within (now (c .before .before .before .before .before .args .line)) (c .before .before .before .before .before .pre) (c .before .before .command .given .0 .0) (c .before .before .command .given .1)
+    let known = c .before .before in
+    let s = known .before .before .before in
+    s .pre (known .command .given .0 .0) (known .command .given .1)
 
 returns : tie.Need-returns
 returns c = search needs

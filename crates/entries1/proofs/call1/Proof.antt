@@ -4,7 +4,7 @@
 use Rattle.walks.proofs.Kit.{_≡_, refl, sym, subst, arith, emp, use0, ap, _∙_, ℕ, _≤_, _<_, _^_, List, [], _∷_, length, URA, fullShare, named, w64, Val, vint, SProp, ent, sep, via, fst∗, id⊢, Lft, Share, GName, ftrue, flft, Memory, Routine, Heap, WpFn, Tables, Atoms, sem, Fun, givenOf, tablesOf, Given, ‵, raw, _⊛_, some, later, ⋆, _$_, _∵_, !, qed, by, move, keep, drop, use1, use2, use3, split, join, pick, fsplit, fjoin, feqL, await, suffices, frame, done, whole, sub, look-in, agg, look, init, stop, hop, fld, from, load, addr, of-opd, and-then, no-more, assigns, land, returns, enter, alloc1, alloc0, params1, pass1, pass0, free0, lft-new, lft-end, fmOf, owns, Is, u8, usize, Array, RefT, sliceVal, MutSlice, ShrSlice, Room, finally, slice-vals, mut-slice-tells, shr-slice-tells, shr-slice-copy, plain, nothing, owned, heard, onEntry, tripleOf, Contract, Triple, cited, says, Stays, stay-none, stay-none-slice, gave-slice, walkOf, goes-none, goes-none-slice, goes-gave-slice, Walks, ends-at, walked, yes}
 use lib.ListN.{take}
 use Rattle.table.specs.Table.{between, heldOf}
-use Rattle.table.specs.Widths.{noSite1}
+use Rattle.table.specs.Widths.{noSite1, widened}
 use Rattle.walks.proofs.Walk.{arrays, uint-row, unit-row, shared, unique, LentOn, lends-shared, shared-back, calls-plain, gone, machine, proved}
 use Rattle.table.proofs.Sites1.{Site, S, site}
 use Rattle.table.proofs.Overlay.{held-stands}
@@ -17,17 +17,20 @@ use Rattle.table.proofs.store1.Met as store1-thm
 use Rattle.edition1.specs.declared.Store1.{Store1}
 use Rattle.edition1.specs.declared.Decision1.{Decision1}
 use Rattle.edition1.specs.declared.Request1.{Request1}
+use Rattle.records.specs.Format.{edition1}
+use Rattle.store.specs.Calls.{told}
 use Rattle.store.specs.State.{step}
-use Rattle.edition1.specs.Edition1.{view1, callOf1, Typed1, turned1, Served1}
+use Rattle.edition1.specs.Edition1.{storeOf1, view1, requestOf1, callOf1, Typed1, turned1, Served1}
 use Rattle.edition1.proofs.Store1 as K
 use Rattle.edition1.proofs.Request1 as Q
 use Rattle.edition1.proofs.Decision1 as D
 use Rattle.edition1.proofs.Out1 as O
-use Rattle.entries1.specs.declared.Places.{Places}
-use Rattle.entries1.specs.Stored.{storedOf}
-use Rattle.entries1.proofs.Places as P
-use Rattle.entries1.proofs.Rows1.{store, out, request, decision, places, outOf, out-is, sites-are, n-fits, count-fits, from-fits, to-fits}
-use Rattle.entries1.proofs.StoredSteps.{Among, among, stored-steps}
+use Rattle.serve.specs.declared.Places.{Places}
+use Rattle.serve.specs.Stored.{storedOf, Among}
+use Rattle.serve.proofs.Places as P
+use Rattle.serve.proofs.PlacesRow.{places, from-fits, to-fits}
+use Rattle.serve.proofs.StoredSteps.{among, seen-steps}
+use Rattle.entries1.proofs.Rows1.{store, out, request, decision, outOf, out-is, sites-are, n-fits, count-fits}
 use Rattle.entries1.proofs.stored1 as stored1
 use Rattle.entries1.proofs.stored1.Symbol as stored1-def
 use Rattle.entries1.proofs.stored1.Met as stored1-thm
@@ -122,11 +125,12 @@ module _ {M : Type 1} (𝓤 : URA M) (H : Heap 𝓤) (A : Atoms 𝓤) (W : Given
 
     -- what is stored makes the table the step's
     ends : (d : Decision1) (p : Places) (zs : List Site) (bs : List ℕ) (ss : List Site) → ss ≡ heldOf noSite1 (x .now) → Served1 k ss (length (x .now)) a (s .now) (b .now) d bs
-        → Is (Array S 512) (d .sites) (arrays site 512 .val (d .sites) ∷ []) → p ≡ storedOf a (k .count) (d .n) → zs ≡ between (p .from) (p .to) (d .sites) (x .now)
+        → Is (Array S 512) (d .sites) (arrays site 512 .val (d .sites) ∷ []) → p ≡ storedOf (requestOf1 a) (k .count) (d .n) → zs ≡ between (p .from) (p .to) (d .sites) (x .now)
         → turned1 (outOf d) zs bs ≡ step (view1 k (x .now)) (callOf1 a (s .now) (b .now))
     ends d p zs bs ss same served are chosen stored =
         ap (λ (t : List Site). turned1 (outOf d) t bs) (stored ∙ ap (λ (r : Places). between (r .from) (r .to) (d .sites) (x .now)) chosen)
-        ∙ stored-steps k (x .now) (d .sites) (d .n) (s .now) (b .now) (omega (arith, served .few, are .1 .0 .1)) (served .room) a (outOf d) bs (served .steps (x .now) refl (ap (take (length (x .now))) same ∙ held-stands noSite1 (x .now)))
+        ∙ seen-steps widened edition1 (storeOf1 k) (x .now) (d .sites) (d .n) (s .now) (b .now) (omega (arith, served .few, are .1 .0 .1)) (served .room) (requestOf1 a) (storeOf1 (d .store)) (record { answer = told (d .answer); buffer = bs })
+        (served .steps (x .now) refl (ap (take (length (x .now))) same ∙ held-stands noSite1 (x .now)))
 
     abbrev args : List Val
     args = store .val k ∷ sliceVal (x .ptr) (length (x .now)) ∷ request .val a ∷ sliceVal (s .ptr) (length (s .now)) ∷ sliceVal (b .ptr) (length (b .now)) ∷ []
@@ -170,8 +174,8 @@ module _ {M : Type 1} (𝓤 : URA M) (H : Heap 𝓤) (A : Atoms 𝓤) (W : Given
         use0 W (raw (Stored 𝓤 H A mem run .pre (to-stored (d .n)))) (asks-stored (d .n) (n-fits d d-is)) $
         calls-plain ! fm stored1.ended (stored1.clauses 𝓤 H A mem run) known-stored (to-stored (d .n)) places
         (and-then ! (load ! (from ! (stop !)) (look ! 33 refl)) (and-then ! (load ! (from ! (fld ! refl (stop !))) (look-in ! 37 (sub ! 0 refl (whole !)))) (and-then ! (load ! (from ! (fld ! refl (stop !))) (look-in ! 25 (sub ! 3 refl (whole !)))) (no-more !)))) (λ p _ p-is.
-        heard ! (p ≡ storedOf a (k .count) (d .n)) (λ chosen. drop ! $ drop ! $ land ! (from ! (stop !)) (init ! 22 refl (places .lawful 𝓤 H A W .typed p _ p-is .0)) $
-        let some-of : Among (d .n) p = subst (Among (d .n)) (sym chosen) (among a (k .count) (d .n)) in
+        heard ! (p ≡ storedOf (requestOf1 a) (k .count) (d .n)) (λ chosen. drop ! $ drop ! $ land ! (from ! (stop !)) (init ! 22 refl (places .lawful 𝓤 H A W .typed p _ p-is .0)) $
+        let some-of : Among (d .n) p = subst (Among (d .n)) (sym chosen) (among (requestOf1 a) (k .count) (d .n)) in
         assigns ! (addr ! (from ! (fld ! refl (hop ! (look-in ! 34 (sub ! 0 refl (whole !))) (stop !))))) (from ! (stop !)) (init ! 8 refl (tt, tt)) $
         assigns ! (agg ! (and-then ! (load ! (from ! (stop !)) (look ! 8 refl)) (and-then ! (load ! (from ! (fld ! refl (stop !))) (look-in ! 34 (sub ! 1 refl (whole !)))) (no-more !)))) (from ! (stop !)) (init ! 6 refl (tt, (tt, (record { fits = room .0 }, tt)))) $
         move ! (4 ∷ 5 ∷ []) $ use2 W (raw (Store 𝓤 H A mem run .pre (to-store (d .sites) p)))

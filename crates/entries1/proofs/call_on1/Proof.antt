@@ -1,7 +1,6 @@
 -- `entries1::call_on1` meets its contract: a walk of its MIR, by hand. The table is a local array, whose first elements are lent to `call1` as a slice for a lifetime ν, and come back.
 -- Assumes nothing.
 use Rattle.walks.proofs.Kit.{_≡_, refl, ap, _∙_, ℕ, _<_, _^_, arith, List, [], _∷_, length, URA, fullShare, named, w64, Val, vint, SProp, ent, sep, emp, via, fst∗, id⊢, Lft, Share, GName, ftrue, flft, Memory, Routine, Heap, WpFn, Tables, Atoms, sem, Fun, givenOf, tablesOf, Given, ‵, raw, _⊛_, some, later, ⋆, _$_, _∵_, !, qed, by, move, keep, drop, use0, use1, use2, use3, split, join, pick, fsplit, fjoin, feqL, await, suffices, frame, done, whole, sub, look-in, agg, look, init, stop, hop, fld, from, load, addr, of-opd, and-then, no-more, assigns, land, returns, enter, alloc1, alloc0, params1, pass1, pass0, free0, lft-new, lft-end, fmOf, owns, Is, uint-vals, uint-tells, uint-makes, u8, usize, Array, RefT, sliceVal, MutSlice, ShrSlice, Room, finally, slice-vals, mut-slice-tells, shr-slice-tells, shr-slice-copy, plain, nothing, owned, heard, onEntry, tripleOf, Contract, Triple, cited, says, Stays, stay-none, stay-none-slice, gave-slice, walkOf, goes-none, goes-none-slice, goes-gave-slice, Walks, ends-at, walked, yes, Lent, flent, sliceTy, tyRef, erased, mut, pointee, fat, rewrite, row, sym}
-use Prim.Native.Nat.{min}
 use mathlib.Core.List.{map, _++_}
 use lib.ListN.{take, take-append-drop}
 use lib.ListN.{drop as behind}
@@ -26,10 +25,11 @@ use Rattle.entries1.specs.declared.OutOn1.{OutOn1}
 use Rattle.entries1.proofs.OutOn1 as N
 use Rattle.entries1.proofs.OutOn1.Laws as N′
 use Rattle.entries1.proofs.Rows1.{store, out, request}
-use Rattle.entries1.proofs.Tables1.{lent-first}
-use Rattle.entries1.proofs.places_on1 as p
-use Rattle.entries1.proofs.places_on1.Symbol as p-def
-use Rattle.entries1.proofs.places_on1.Met as p-thm
+use Rattle.table.specs.Table.{placesOn}
+use Rattle.table.proofs.LentFirst.{lent-first}
+use Rattle.table.proofs.places_on as p
+use Rattle.table.proofs.places_on.Symbol as p-def
+use Rattle.table.proofs.places_on.Met as p-thm
 use Rattle.entries1.proofs.call1 as g
 use Rattle.entries1.proofs.call1.Symbol as g-def
 use Rattle.entries1.proofs.call1.Met as g-thm
@@ -125,7 +125,7 @@ module _ {M : Type 1} (𝓤 : URA M) (H : Heap 𝓤) (A : Atoms 𝓤) (W : Given
         assigns ! (of-opd ! (load ! (from ! (stop !)) (look ! 24 refl))) (from ! (stop !)) (init ! 14 refl typed-all) $
         use0 W (raw (Few 𝓤 H A mem′ run .pre to-few)) asks-few $
         calls-plain ! fm p.ended (p.clauses 𝓤 H A mem′ run) known-few to-few (uint-row w64) (and-then ! (load ! (from ! (stop !)) (look ! 23 refl)) (no-more !)) (λ few _ few-is.
-        heard ! (few ≡ min places 600) (λ e. drop ! $ drop ! $ land ! (from ! (stop !)) (init ! 12 refl (tt, record { fits = few-is .1 })) $
+        heard ! (few ≡ placesOn places) (λ e. drop ! $ drop ! $ land ! (from ! (stop !)) (init ! 12 refl (tt, record { fits = few-is .1 })) $
         let front : length (take few t) ≡ few = length-take-le few t (omega (arith, e, long)) in
         assigns ! (addr ! (from ! (stop !))) (from ! (stop !)) (init ! 8 refl (tt, tt)) $
         assigns ! (agg ! (and-then ! (load ! (from ! (stop !)) (look ! 8 refl)) (and-then ! (load ! (from ! (stop !)) (look ! 12 refl)) (no-more !)))) (from ! (stop !)) (init ! 6 refl (tt, (tt, (record { fits = few-is .1 }, tt)))) $
@@ -151,7 +151,7 @@ module _ {M : Type 1} (𝓤 : URA M) (H : Heap 𝓤) (A : Atoms 𝓤) (W : Given
         -- [κ″'s token; κ′'s; ν is over; the last values; the input; what is lent; the other row; _14; …]
         move ! (3 ∷ []) $ fsplit ! $ drop ! $ fsplit ! $ fsplit ! $ move ! (1 ∷ []) $ feqL ! (λ z-long. move ! (1 ∷ []) $ fsplit ! $ drop ! $ fsplit ! $ drop ! $ fsplit ! $ fsplit ! $ move ! (1 ∷ []) $ feqL ! (λ b-long. move ! (1 ∷ []) $ drop ! $
         let zs = ws .1 .0 in
-        let laid = lent-first places few 600 t zs e long (z-long ∙ front) in
+        let laid = lent-first places few t zs e long (z-long ∙ front) in
         move ! (4 ∷ 6 ∷ 1 ∷ []) $ use3 W (later (‵ (row S fullShare zs l₇ 0))) (row-back 𝓤 H A W S (ν ∷ []) l₇ 0 δ (length (take few t)) zs) $ await ! tt $
         rewrite ! 5 (λ (m : ℕ). ‵ (row S fullShare (behind few t) l₇ (place (mem S .size) 0 m))) (sym z-long) refl $ move ! (0 ∷ 5 ∷ []) $
         use2 W (‵ (row S fullShare (zs ++ behind few t) l₇ 0)) (joined 𝓤 H A W S fullShare l₇ zs (behind few t) 0) $
@@ -177,5 +177,5 @@ call-on1-spec 𝓤 H 𝓜 𝓖 𝓡 =
     proved 𝓤 H 𝓜 𝓖 𝓡 code.env f.ended stayed (f.clauses 𝓤 H (𝓖 .A) (𝓜 .mem) (𝓡 .run)) key.name code.function (code.unfolded 𝓤 H 𝓜 𝓡)
     (goes-none 𝓤 H (𝓖 .A) W 2 (λ _. K.the-row) yes (λ κs x e. refl), (goes-none 𝓤 H (𝓖 .A) W 2 (λ _. Array S 600) yes (λ κs x e. refl), (goes-none 𝓤 H (𝓖 .A) W 2 (λ _. usize) yes (λ κs x e. refl), (goes-none 𝓤 H (𝓖 .A) W 2 (λ _. Q.the-row) yes (λ κs x e. refl), (goes-none-slice 𝓤 H (𝓖 .A) W 2 (0 ∷ []) tt (plain (λ _. u8)) yes, (goes-gave-slice 𝓤 H (𝓖 .A) W 2 1 tt (plain (λ _. u8)), tt))))))
     (walks 𝓤 H (𝓖 .A) W (𝓜 .mem) (𝓡 .run) (machine 𝓤 H 𝓜 𝓖 𝓡 code.env)
-    (cited 𝓤 H (Few 𝓤 H (𝓖 .A) (𝓜 .mem) (𝓡 .run)) 𝓜 𝓡 code.env p-def.name p-def.routine code.calls-entries1·places-on1 (p-thm.met 𝓤 H 𝓜 𝓖 𝓡))
+    (cited 𝓤 H (Few 𝓤 H (𝓖 .A) (𝓜 .mem) (𝓡 .run)) 𝓜 𝓡 code.env p-def.name p-def.routine code.calls-table·places-on (p-thm.met 𝓤 H 𝓜 𝓖 𝓡))
     (cited 𝓤 H (Call 𝓤 H (𝓖 .A) (𝓜 .mem) (𝓡 .run)) 𝓜 𝓡 code.env g-def.name g-def.routine code.calls-entries1·call1 (g-thm.met 𝓤 H 𝓜 𝓖 𝓡)))

@@ -17,13 +17,27 @@ returns c =
     rw (n .before .before .if1 .taken) (n .numbers-by .ensures)
 
 numbers-by-requires-2 : tie.Need-numbers-by-requires-2
-numbers-by-requires-2 c κs = search needs
+numbers-by-requires-2 c κs =
+    let i = c .before in
+    let k = i .before .before in
+    rw (i .if2 .taken) at (k .before .before .pre)
 
 same-length-2 : tie.Need-same-length-2
 same-length-2 c = search needs
 
 returns-2 : tie.Need-returns-2
-returns-2 c = search needs
+returns-2 c =
+    let n = c .before .before in
+    rw (n .before .before .if2 .taken) (n .numbers-by2 .ensures)
+
+numbers-by-requires-3 : tie.Need-numbers-by-requires-3
+numbers-by-requires-3 c κs = search needs
+
+same-length-3 : tie.Need-same-length-3
+same-length-3 c = search needs
+
+returns-3 : tie.Need-returns-3
+returns-3 c = search needs
 
 pub numbers-in-spec : {M : Type 1} → statement M
 numbers-in-spec =
@@ -34,4 +48,7 @@ numbers-in-spec =
     returns
     numbers-by-requires-2
     same-length-2
-    returns-2)
+    returns-2
+    numbers-by-requires-3
+    same-length-3
+    returns-3)

@@ -33,7 +33,9 @@ returns c =
     put (i .before .before) _ (rw (i .if1 .taken) (p .put-by .ensures))
 
 put-by-requires-2 : tie.Need-put-by-requires-2
-put-by-requires-2 c κs = search needs
+put-by-requires-2 c κs =
+    let i = c .before in
+    rw (i .if2 .taken) at (i .before .before .before .pre)
 
 same-length-2 : tie.Need-same-length-2
 same-length-2 c = search needs
@@ -41,10 +43,22 @@ same-length-2 c = search needs
 returns-2 : tie.Need-returns-2
 returns-2 c =
     let p = c .before .before in
-    let s = p .before .before .before .before in
-    put s _ (p .put-by2 .ensures)
+    let i = p .before .before in
+    put (i .before .before .before) _ (rw (i .if2 .taken) (p .put-by2 .ensures))
+
+put-by-requires-3 : tie.Need-put-by-requires-3
+put-by-requires-3 c κs = search needs
+
+same-length-3 : tie.Need-same-length-3
+same-length-3 c = search needs
+
+returns-3 : tie.Need-returns-3
+returns-3 c =
+    let p = c .before .before in
+    let i = p .before .before in
+    put (i .before .before .before) _ (p .put-by3 .ensures)
 
 pub put-sites-spec : {M : Type 1} → statement M
 put-sites-spec =
     tie.close
-    (tie.spec put-by-requires same-length returns put-by-requires-2 same-length-2 returns-2)
+    (tie.spec put-by-requires same-length returns put-by-requires-2 same-length-2 returns-2 put-by-requires-3 same-length-3 returns-3)

@@ -2,9 +2,10 @@
 -- place. While the loop runs, the array's elements lie in memory as a row, which after i turns is the first i sites of the table over blank places.
 -- Assumes nothing.
 use Prim.Native.Nat.{min}
-use Rattle.walks.proofs.Kit.{_≡_, refl, sym, _∙_, ap, ℕ, set, sep, sem, id⊢, use1, use2, shr-slice-copy, _+_, _*_, _≤_, _<_, _^_, arith, List, [], _∷_, length, getD, replicate, ltb→lt, nltb→le, lit<, URA, fullShare, Ty, named, imm, w64, tyInt, tyBool, tyPtr, tyRef, tyArray, Val, vint, vptr, SProp, ent, emp, via, fst∗, Lft, Share, ftrue, fat, fdies, flft, Memory, Routine, Heap, WpFn, Tables, afterTurn, Atoms, Fun, givenOf, tablesOf, Given, Item, ‵, raw, _⊛_, ⋆, _$_, _∵_, !, qed, by, move, drop, use0, split, join, rewrite, fsplit, fjoin, atRet, suffices, frame, done, whole, sub, look-in, agg, rep, look, init, store, store-raw, forget, stop, hop, fld, from, load, addr, lit, of-opd, bin, and-then, no-more, assigns, assigns-last, land, first, blocks, loops, again, exec, returns, enter, alloc1, alloc0, params1, pass1, pass0, free0, owns, pointee, Is, uint-makes, usize, Array, RefT, sliceTy, sliceVal, ShrSlice, Room, slice-vals, shr-slice-tells, place-is, row, plain, nothing, owned, heard, onEntry, tripleOf, Contract, Triple, cited, fmOf, says, Stays, stay-none-slice, walkOf, goes-none-slice, Walks, ends-at, walked, yes}
+use Rattle.walks.proofs.Kit.{_≡_, refl, sym, _∙_, ap, ℕ, sep, sem, id⊢, use1, use2, shr-slice-copy, _+_, _*_, _≤_, _<_, _^_, arith, List, [], _∷_, length, getD, replicate, ltb→lt, nltb→le, lit<, URA, fullShare, Ty, named, imm, w64, tyInt, tyBool, tyPtr, tyRef, tyArray, Val, vint, vptr, SProp, ent, emp, via, fst∗, Lft, Share, ftrue, fat, fdies, flft, Memory, Routine, Heap, WpFn, Tables, afterTurn, Atoms, Fun, givenOf, tablesOf, Given, Item, ‵, raw, _⊛_, ⋆, _$_, _∵_, !, qed, by, move, drop, use0, split, join, rewrite, fsplit, fjoin, atRet, suffices, frame, done, whole, sub, look-in, agg, rep, look, init, store, store-raw, forget, stop, hop, fld, from, load, addr, lit, of-opd, bin, and-then, no-more, assigns, assigns-last, land, first, blocks, loops, again, exec, returns, enter, alloc1, alloc0, params1, pass1, pass0, free0, owns, pointee, Is, uint-makes, usize, Array, RefT, sliceTy, sliceVal, ShrSlice, Room, slice-vals, shr-slice-tells, place-is, row, plain, nothing, owned, heard, onEntry, tripleOf, Contract, Triple, cited, fmOf, says, Stays, stay-none-slice, walkOf, goes-none-slice, Walks, ends-at, walked, yes}
 use Rattle.table.specs.Table.{overlay, blank, heldOf}
-use Rattle.table.proofs.Overlay.{blank-is, blank-length, overlay-none, overlay-next, overlay-length}
+use Rattle.table.proofs.Overlay.{blank-is, overlay-none}
+use Rattle.table.proofs.Turns.{filled-length, filled-next}
 use Rattle.walks.proofs.Walk.{arrays, uint-row, repeats, has, free, shared, row-open, row-close, array-opens, array-closes, Upto, further, further-ends, tests, calls-plain, gone, unused, machine, proved}
 use Rattle.table.proofs.Sites1.{Site, S, site, layout, size, noSite, noSite-is}
 use Rattle.table.proofs.capacity as capacity
@@ -80,9 +81,6 @@ module _ {M : Type 1} (𝓤 : URA M) (H : Heap 𝓤) (A : Atoms 𝓤) (W : Given
         nothing ! $ move ! (1 ∷ 0 ∷ []) $ join ! $ frame ! $ nothing ! $ move ! (1 ∷ 0 ∷ []) $ fjoin ! $ frame ! $
         owned ! (Array S 512) (Is (Array S 512)) (arrays site 512 .makes 𝓤 H A W) r _ is $ done !
 
-    long : (i : ℕ) → i ≤ 512 → i ≤ length (x .now) → length (filled i) ≡ 512
-    long i a b = overlay-length (x .now) (blank noSite) i b (omega (arith, blank-length noSite)) ∙ blank-length noSite
-
     walk : Room S (length (x .now)) → ent 𝓤 (onEntry 𝓤 H A f.signature (κ, tt) (q, tt) (x, tt) (slice-vals x, tt)) (WpFn 𝓤 H (𝓣 .C) (𝓣 .Λ) code.function (slice-vals x) Post)
     unfolding afterTurn
     walk room =
@@ -111,7 +109,7 @@ module _ {M : Type 1} (𝓤 : URA M) (H : Heap 𝓤) (A : Atoms 𝓤) (W : Given
         let far : t .0 * size < 2 ^ 64 = omega arith in
         let more : t .0 + 1 < 2 ^ 64 = omega arith in
         let in-table : t .0 < length (x .now) = omega arith in
-        let in-row : t .0 < length (filled (t .0)) = omega (arith, long (t .0) (omega arith) (omega arith)) in
+        let in-row : t .0 < length (filled (t .0)) = omega (arith, filled-length noSite (x .now) (t .0) (omega arith) (omega arith)) in
         move ! (1 ∷ []) $ use1 W (‵ (shared κ S x) ⊛ ‵ (shared κ S x)) (shr-slice-copy 𝓤 H A W (named 0) κ S .twice x (slice-vals x)) $ split ! $
         move ! (2 ∷ 0 ∷ []) $ use2 W (raw (SiteAt 𝓤 H A mem run .pre (to-site (t .0)))) (asks-site (t .0) (omega arith) in-table) $
         -- [what the callee asks; table; the row; that _3 dies; _11; …]
@@ -126,13 +124,13 @@ module _ {M : Type 1} (𝓤 : URA M) (H : Heap 𝓤) (A : Atoms 𝓤) (W : Given
         move ! (2 ∷ []) $ row-open site ! fullShare (filled (t .0)) (t .0) noSite l₃ 0 in-row (λ _.
         assigns ! (of-opd ! (load ! (from ! (stop !)) (look ! 11 refl))) (from ! (hop ! (look ! 5 refl) (stop !))) (store-raw ! 0 refl typed) $
         row-close site ! fullShare (filled (t .0)) (t .0) found l₃ 0 in-row is $
-        rewrite ! 0 (λ (l : List Site). ‵ (row S fullShare l l₃ 0)) (ap (λ (y : Site). set (filled (t .0)) (t .0) y) read ∙ overlay-next (x .now) (blank noSite) (t .0) noSite in-table (omega (arith, blank-length noSite))) refl $
+        rewrite ! 0 (λ (l : List Site). ‵ (row S fullShare l l₃ 0)) (filled-next noSite (x .now) (t .0) found (omega arith) in-table read) refl $
         assigns-last ! (bin ! (load ! (from ! (stop !)) (look ! 18 refl)) (lit ! tt) (record { fits = more })) (from ! (stop !)) (store ! 18 refl (tt, record { fits = more })) $
         forget ! 4 refl $ forget ! 6 refl $ forget ! 8 refl $ forget ! 10 refl $ forget ! 12 refl $ move ! (1 ∷ 2 ∷ []) $
         again ! (further n) I t (t .0 + 1, omega arith) (omega arith))))) (λ h.
         -- the loop is left: the array is whole again, and is the result
         exec ! (𝓣 .C) (𝓣 .Λ) _ body.t-7 (atRet _ Post) $
-        move ! (2 ∷ []) $ array-closes site ! 512 (filled (t .0)) l₃ (long (t .0) (omega (arith, t .1)) (omega (arith, t .1))) (λ is. move ! (1 ∷ 2 ∷ []) $
+        move ! (2 ∷ []) $ array-closes site ! 512 (filled (t .0)) l₃ (filled-length noSite (x .now) (t .0) (omega (arith, t .1)) (omega (arith, t .1))) (λ is. move ! (1 ∷ 2 ∷ []) $
         assigns ! (of-opd ! (load ! (from ! (stop !)) (look ! 2 refl))) (from ! (stop !)) (init ! 24 refl (arrays site 512 .lawful 𝓤 H A W .typed (filled (t .0)) _ is .0)) $
         returns ! (look ! 24 refl) $ gone ! 24 refl refl $ gone ! 22 refl refl $ gone ! 20 refl refl $ gone ! 2 refl refl $ gone ! 16 refl refl $ gone ! 14 refl refl $ gone ! 12 refl refl $ gone ! 10 refl refl $
         unused ! 8 refl refl $ unused ! 6 refl refl $ unused ! 4 refl refl $ unused ! 2 refl refl $ free0 ! $

@@ -2,11 +2,11 @@
 -- lent to `put_site1` for a lifetime ν, and comes back with one place changed. Before place i it has the sites from `from` up to i.
 -- Assumes nothing.
 use Rattle.walks.proofs.Kit.{_≡_, refl, sym, ap, subst, _∙_, erased, sep, sem, id⊢, GName, tablesOf, raw, some, later, use1, use2, use3, pick, await, feqL, lft-new, lft-end, agg, and-then, no-more, land, heard, tripleOf, Contract, Triple, cited, fmOf, ℕ, _+_, _*_, _≤_, _<_, _^_, arith, List, [], _∷_, length, getD, set, set-getD, ltb→lt, nltb→le, URA, fullShare, Ty, named, mut, w64, tyInt, tyBool, tyUnit, tyPtr, tyRef, tyArray, Val, vunit, vint, vptr, SProp, ent, Lft, Share, ftrue, fat, fdies, flft, Memory, Routine, Heap, WpFn, Tables, afterTurn, Atoms, Fun, givenOf, Given, Item, ‵, _⊛_, ⋆, _$_, _∵_, !, qed, by, move, drop, split, join, rewrite, fsplit, fjoin, feqI, atRet, suffices, frame, done, whole, sub, look-in, look, look-raw, init, store, forget, stop, hop, fld, from, load, addr, lit, unit-lit, of-opd, bin, assigns, assigns-last, first, blocks, loops, again, exec, returns, enter, alloc1, alloc0, params1, pass1, pass0, free0, owns, pointee, Is, uint-vals, uint-tells, uint-makes, usize, Array, RefT, at-last, sliceTy, sliceVal, MutSlice, Room, slice-vals, mut-slice-tells, place-is, row, plain, nothing, owned, onEntry, says, needs, Stays, stay-none, stay-slice, walkOf, goes-none, goes-slice, Walks, ends-at, walked, yes}
-use mathlib.Core.WellFounded.{InvImage·wf}
 use mir.Syntax.{Lifetime}
 use Rattle.table.specs.Table.{between}
 use Rattle.table.proofs.Overlay.{between-none, between-next, between-length}
-use Rattle.walks.proofs.Walk.{arrays, unit-row, has, free, unique, LentAgain, lends-again, comes-back, row-open, row-close, array-opens, array-closes, Upto, further, further-ends, tests, calls-plain, gone, unused, machine, proved}
+use Rattle.table.proofs.Turns.{Counter, nearer, nearer-ends}
+use Rattle.walks.proofs.Walk.{arrays, unit-row, has, free, unique, LentAgain, lends-again, comes-back, row-open, row-close, array-opens, array-closes, tests, calls-plain, gone, unused, machine, proved}
 use Rattle.table.proofs.Sites1.{Site, S, site, layout, size, noSite}
 use Rattle.table.proofs.put_site1 as g
 use Rattle.table.proofs.put_site1.Symbol as g-def
@@ -28,13 +28,6 @@ slice r = sliceTy (tyRef r mut (pointee (S .written)))
 
 abbrev sites : Ty
 sites = tyArray layout 512
-
--- a counter that goes from one place up to another, and its order
-abbrev Place : ℕ → ℕ → Type 0
-Place a b = (t : Upto b) × (a ≤ t .0)
-
-abbrev on : (a b : ℕ) → Place a b → Place a b → Type 0
-on a b s t = further b (s .0) (t .0)
 
 -- the contract of the callee
 abbrev Put : {M : Type 1} (𝓤 : URA M) (H : Heap 𝓤) (A : Atoms 𝓤) (mem : Memory → SProp 𝓤) (run : Routine → Fun 𝓤) → Contract 𝓤
@@ -69,7 +62,7 @@ module _ {M : Type 1} (𝓤 : URA M) (H : Heap 𝓤) (A : Atoms 𝓤) (W : Given
         owned ! usize _ (uint-makes 𝓤 H A W w64) i _ (refl, fits) $ fjoin ! $ move ! (2 ∷ 0 ∷ []) $ fjoin ! $ nothing ! $ move ! (2 ∷ 0 ∷ []) $ join ! $ done !
 
     -- the loop's invariant, before place i
-    abbrev Inv : (l₀ l₁ l₂ l₃ l₄ l₅ l₆ l₇ l₈ l₉ l₁₀ l₁₁ l₁₂ l₁₃ l₁₄ : ℕ) → Place a b → List (Item 𝓤)
+    abbrev Inv : (l₀ l₁ l₂ l₃ l₄ l₅ l₆ l₇ l₈ l₉ l₁₀ l₁₁ l₁₂ l₁₃ l₁₄ : ℕ) → Counter a b → List (Item 𝓤)
     Inv l₀ l₁ l₂ l₃ l₄ l₅ l₆ l₇ l₈ l₉ l₁₀ l₁₁ l₁₂ l₁₃ l₁₄ t =
         ‵ (flft κ q) ∷ ‵ (unique κ S (before (t .0 .0)) (length (x .now))) ∷ ‵ (row S fullShare ss l₅ 0) ∷ ‵ (fdies sites l₅) ∷
         free layout l₁₄ (free tyPtr l₁₃ (free tyPtr l₁₂ (free word l₁₁ (free (slice erased) l₁₀ (free (tyRef erased mut (pointee (S .written))) l₉ (free tyUnit l₈ (free tyBool l₇ (
@@ -106,7 +99,7 @@ module _ {M : Type 1} (𝓤 : URA M) (H : Heap 𝓤) (A : Atoms 𝓤) (W : Given
           move ! (31 ∷ []) $ fsplit ! $ move ! (1 ∷ []) $ drop ! $ move ! (31 ∷ []) $ split ! $ move ! (1 ∷ []) $ drop ! $ move ! (0 ∷ 1 ∷ 2 ∷ 21 ∷ []) $
           rewrite ! 1 (λ (l : List Site). ‵ (unique κ S (at-last x l) (length (x .now)))) (sym (between-none a ss (x .now) (omega (arith, bounds .0, bounds .2)))) refl $
           let I = Inv l₀ l₁ l₂ l₃ l₄ l₅ l₆ l₇ l₈ l₉ l₁₀ l₁₁ l₁₂ l₁₃ l₁₄ in
-          first ! $ blocks ! $ loops ! 𝓣 (on a b) (InvImage·wf (λ (t : Place a b). t .0) (further-ends b)) I (λ t.
+          first ! $ blocks ! $ loops ! 𝓣 (nearer a b) (nearer-ends a b) I (λ t.
           -- [the token; table; the row; that _5 dies; _14; …; _13; …; _12; …; _11; …; _10; …; _9; …; _8; …; _7; …; _6; …; _4; …; _3; …; _2; …; _1; …; _0; …]
           let i = t .0 .0 in
           assigns ! (bin ! (load ! (from ! (stop !)) (look ! 20 refl)) (load ! (from ! (stop !)) (look ! 22 refl)) tt) (from ! (stop !)) (init ! 18 refl (tt, tt)) $
@@ -144,7 +137,7 @@ module _ {M : Type 1} (𝓤 : URA M) (H : Heap 𝓤) (A : Atoms 𝓤) (W : Given
           rewrite ! 1 (λ (l : List Site). ‵ (unique κ S (at-last x l) (length (x .now)))) (put ∙ between-next ss (x .now) a i noSite (t .1) in-ss (omega (arith, l, bounds .2))) refl $
           assigns-last ! (bin ! (load ! (from ! (stop !)) (look ! 20 refl)) (lit ! tt) (record { fits = more })) (from ! (stop !)) (store ! 20 refl (tt, record { fits = more })) $
           forget ! 4 refl $ forget ! 6 refl $ forget ! 8 refl $ forget ! 10 refl $ forget ! 12 refl $ forget ! 14 refl $ forget ! 16 refl $ forget ! 18 refl $
-          again ! (on a b) I t ((i + 1, omega (arith, l)), omega (arith, t .1)) (omega (arith, l))))))))) (λ h.
+          again ! (nearer a b) I t ((i + 1, omega (arith, l)), omega (arith, t .1)) (omega (arith, l))))))))) (λ h.
           exec ! (𝓣 .C) (𝓣 .Λ) _ body.t-4 (atRet _ Post) $
           move ! (2 ∷ []) $ array-closes site ! 512 ss l₅ long (λ _. move ! (1 ∷ 2 ∷ []) $
           assigns ! (of-opd ! (unit-lit !)) (from ! (stop !)) (init ! 30 refl (tt, tt)) $

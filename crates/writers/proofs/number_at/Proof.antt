@@ -37,6 +37,17 @@ returns-3 c =
     let called = c .before .before in
     rw (called .before .before .if3 .taken) (called .put-eight .ensures)
 
+put-six-requires : tie.Need-put-six-requires
+put-six-requires c κs = search needs
+
+same-length-4 : tie.Need-same-length-4
+same-length-4 c = search needs
+
+returns-4 : tie.Need-returns-4
+returns-4 c =
+    let called = c .before .before in
+    rw (called .before .before .if4 .taken) (called .put-six .ensures)
+
 add-put : tie.Need-add-put
 add-put c = search needs
 
@@ -52,15 +63,15 @@ part-put-end c = search needs
 put-requires : tie.Need-put-requires
 put-requires c κs = search needs
 
-same-length-4 : tie.Need-same-length-4
-same-length-4 c = search needs
+same-length-5 : tie.Need-same-length-5
+same-length-5 c = search needs
 
-returns-4 : tie.Need-returns-4
-returns-4 c =
+returns-5 : tie.Need-returns-5
+returns-5 c =
     let called = c .before .before in
     let other = called .before .before in
     let sized = other .before .before .before in
-    let s = sized .before in
+    let s = sized .before .before in
     rw (called .put .ensures) (number-part (s .args .at) (s .args .w) (s .args .x) (s .args .out .now) (s .pre))
 
 pub number-at-spec : {M : Type 1} → statement M
@@ -76,10 +87,13 @@ number-at-spec =
     put-eight-requires
     same-length-3
     returns-3
+    put-six-requires
+    same-length-4
+    returns-4
     add-put
     sub-put
     part-put-start
     part-put-end
     put-requires
-    same-length-4
-    returns-4)
+    same-length-5
+    returns-5)

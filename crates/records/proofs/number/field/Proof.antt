@@ -22,6 +22,12 @@ eight-requires c κs = search needs
 returns-3 : tie.Need-returns-3
 returns-3 c = rw (c .before .if3 .taken) (c .eight .ensures)
 
+six-requires : tie.Need-six-requires
+six-requires c κs = search needs
+
+returns-4 : tie.Need-returns-4
+returns-4 c = rw (c .before .if4 .taken) (c .six .ensures)
+
 add-value : tie.Need-add-value
 add-value c = search needs
 
@@ -37,9 +43,11 @@ part-value-end c = search needs
 value-requires : tie.Need-value-requires
 value-requires c κs = search needs
 
-returns-4 : tie.Need-returns-4
-returns-4 c =
-    let a = c .before .before .before .before .before .before .args in
+returns-5 : tie.Need-returns-5
+returns-5 c =
+    let part = c .before .before .before in
+    let start = part .before .before .before in
+    let a = start .before .args in
     rw (add-sub-cancel-left (a .at) (a .w)) at (c .value .ensures)
 
 pub field-spec : {M : Type 1} → statement M
@@ -52,9 +60,11 @@ field-spec =
     returns-2
     eight-requires
     returns-3
+    six-requires
+    returns-4
     add-value
     sub-value
     part-value-start
     part-value-end
     value-requires
-    returns-4)
+    returns-5)

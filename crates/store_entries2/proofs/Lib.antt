@@ -1,0 +1,3 @@
+pub mod Contracts
+pub mod Named2
+pub mod Rows2

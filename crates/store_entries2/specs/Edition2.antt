@@ -1,0 +1,40 @@
+-- Edition 2: its store, table and requests are the definition's.
+use mathlib.Core.List.{List}
+use Prim.Native.Nat.{ℕ}
+use Rattle.density.specs.declared.Site.{Site}
+use Rattle.records.specs.Format.{edition2}
+use Rattle.held_state.specs.declared.Store.{Store}
+use Rattle.held_state.specs.Held.{State, on}
+use Rattle.store.specs.declared.Request.{Request}
+use Rattle.store.specs.Calls.{Call, told}
+use Rattle.store.specs.State.{Done, bare}
+use Rattle.serve.specs.Entries.{Typed, Entry}
+use Rattle.store_entries2.specs.declared.Out2.{Out2}
+
+abbrev pub view2 : Store → List Site → State
+view2 s table = on edition2 s table
+
+abbrev pub callOf2 : Request → List ℕ → List ℕ → Call
+callOf2 q input buffer = record { request = q; input = input; buffer = buffer }
+
+-- what the types of a call say: its input is bytes, and the litres that it names have 32 bits
+abbrev pub Typed2 : Request → List ℕ → Type 0
+Typed2 q input = Typed edition2 q input
+
+-- the structs of edition 2 are what they are in figures
+abbrev pub entry2 : Entry
+entry2 =
+    record {
+      StoreType = Store;
+      SiteType = Site;
+      RequestType = Request;
+      edition = edition2;
+      figures = λ s. s;
+      sites = λ table. table;
+      request = λ q. q;
+      fresh = bare 0;
+    }
+
+-- what an entry gives back, with the table and the buffer as it left them
+abbrev pub turned2 : Out2 → List Site → List ℕ → Done
+turned2 r table buffer = record { after = view2 (r .store) table; reply = record { answer = told (r .answer); buffer = buffer } }

@@ -1,0 +1,2 @@
+pub mod Edition2
+pub mod Entries2
