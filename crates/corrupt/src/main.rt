@@ -12,6 +12,7 @@ use store::Request;
 use store_entries2::call_on2;
 use store_entries2::fresh2;
 use table::Site1;
+use table::values::narrow_low;
 use table::widen;
 use tally::Tally;
 use tally::tallied;
@@ -69,15 +70,7 @@ fn planned(d: Desk, grouped: usize, g: u64, h: u64, s: u64, u: u64) -> Desk {
     }
 }
 
-// A table, a site and a request at edition 1's widths, and a table as the definition has it.
-fn narrow_site(x: Site) -> Site1 {
-    Site1 {
-        first: x.first,
-        second: x.second,
-        litres: (x.litres % 65536) as u16,
-    }
-}
-
+// A table and a request at edition 1's widths, and a table as the definition has it.
 fn narrow_table(table: [Site; 600]) -> [Site1; 600] {
     let x = Site1 {
         first: 0,
@@ -86,7 +79,7 @@ fn narrow_table(table: [Site; 600]) -> [Site1; 600] {
     };
     let mut a = [x; 600];
     for k in 0..600 {
-        a[k] = narrow_site(table[k]);
+        a[k] = narrow_low(table[k]);
     }
     a
 }
@@ -332,25 +325,34 @@ fn cleared(t: Tally, d: Desk, request: Request, count: usize) -> Tally {
 }
 
 // A call that this row refuses, with an input of an edition: the desk's own or the other.
-fn given(t: Tally, d: Desk, e: u8, request: Request, old: &[u8], new: &[u8], row: u8) -> Tally {
+fn given(
+    t: Tally,
+    d: Desk,
+    e: u8,
+    request: Request,
+    bytes1: &[u8],
+    bytes2: &[u8],
+    row: u8,
+) -> Tally {
     let refused = Answer::Refused(row);
     if e == 1 {
-        return tallied(t, stays(d, request, old, refused));
+        return tallied(t, stays(d, request, bytes1, refused));
     }
-    tallied(t, stays(d, request, new, refused))
+    tallied(t, stays(d, request, bytes2, refused))
 }
 
 // Document 01's list T, and the plan of it.
 fn loaded_t(t: Tally, d: Desk, e: u8, row: u8) -> Tally {
-    let old = b"LS\x01\x00ST\x00\x01\x0A\x00";
-    let new = b"L2\x01\x00S2\x00\x01\x0A\x00\x00\x00";
-    given(t, d, e, Request::Load, old, new, row)
+    let bytes1 = b"LS\x01\x00ST\x00\x01\x0A\x00";
+    let bytes2 = b"L2\x01\x00S2\x00\x01\x0A\x00\x00\x00";
+    given(t, d, e, Request::Load, bytes1, bytes2, row)
 }
 
 fn proposed(t: Tally, d: Desk, e: u8, row: u8) -> Tally {
-    let old = b"PL\x01\x01\x00GR\x03\x00\x00\x00\x00\x00\x00\x00SH\x0A\x00\x00\x00";
-    let new = b"P2\x01\x01\x00GR\x03\x00\x00\x00\x00\x00\x00\x00S3\x0A\x00\x00\x00\x00\x00\x00\x00";
-    given(t, d, e, Request::Propose, old, new, row)
+    let bytes1 = b"PL\x01\x01\x00GR\x03\x00\x00\x00\x00\x00\x00\x00SH\x0A\x00\x00\x00";
+    let bytes2 =
+        b"P2\x01\x01\x00GR\x03\x00\x00\x00\x00\x00\x00\x00S3\x0A\x00\x00\x00\x00\x00\x00\x00";
+    given(t, d, e, Request::Propose, bytes1, bytes2, row)
 }
 
 // On load the empty list is done, and no bytes are row 1.
@@ -452,18 +454,18 @@ fn corrupt_own(start: Tally, e: u8) -> Tally {
 }
 
 // The list written out: its length and the buffer then, in edition 1 and in edition 2.
-fn written_out(t: Tally, d: Desk, n: usize, old: &[u8], m: usize, new: &[u8]) -> Tally {
+fn written_out(t: Tally, d: Desk, n: usize, bytes1: &[u8], m: usize, bytes2: &[u8]) -> Tally {
     if d.edition == 1 {
-        return tallied(t, lists(d, n, old));
+        return tallied(t, lists(d, n, bytes1));
     }
-    tallied(t, lists(d, m, new))
+    tallied(t, lists(d, m, bytes2))
 }
 
 // The list T.
 fn written_t(t: Tally, d: Desk) -> Tally {
-    let old = b"LS\x01\x00ST\x00\x01\x0A\x00\xA5\xA5\xA5\xA5\xA5\xA5\xA5\xA5\xA5\xA5";
-    let new = b"L2\x01\x00S2\x00\x01\x0A\x00\x00\x00\xA5\xA5\xA5\xA5\xA5\xA5\xA5\xA5";
-    written_out(t, d, 10, old, 12, new)
+    let bytes1 = b"LS\x01\x00ST\x00\x01\x0A\x00\xA5\xA5\xA5\xA5\xA5\xA5\xA5\xA5\xA5\xA5";
+    let bytes2 = b"L2\x01\x00S2\x00\x01\x0A\x00\x00\x00\xA5\xA5\xA5\xA5\xA5\xA5\xA5\xA5";
+    written_out(t, d, 10, bytes1, 12, bytes2)
 }
 
 // A plan that only row 15 refuses is answered from what is held.
@@ -486,9 +488,9 @@ fn rising(start: Tally, e: u8) -> Tally {
     let zero = Answer::Difference(0, 1);
     let u = asked(t, d, Request::Difference(0, 1), zero);
     let v = proposed(u, d, e, 9);
-    let old = b"LS\x02\x00ST\x00\x00\x04\x00ST\x01\x01\x04\x00\xA5\xA5\xA5\xA5";
-    let new = b"L2\x02\x00S2\x00\x00\x04\x00\x00\x00S2\x01\x01\x04\x00\x00\x00";
-    let w = written_out(v, d, 16, old, 20, new);
+    let bytes1 = b"LS\x02\x00ST\x00\x00\x04\x00ST\x01\x01\x04\x00\xA5\xA5\xA5\xA5";
+    let bytes2 = b"L2\x02\x00S2\x00\x00\x04\x00\x00\x00S2\x01\x01\x04\x00\x00\x00";
+    let w = written_out(v, d, 16, bytes1, 20, bytes2);
     cleared(w, d, Request::Add(0, 1, 1), 3)
 }
 
@@ -581,11 +583,11 @@ fn stored_one(start: Tally, d: Desk, last: usize, count: usize, all: usize) -> T
 fn stored_list(t: Tally, d: Desk) -> Tally {
     let x = site(0, 1, 10);
     if d.edition == 1 {
-        let old = b"LS\x01\x00ST\x00\x01\x0A\x00";
-        return tallied(t, stores(d, Request::Load, old, 1, 0, x));
+        let bytes1 = b"LS\x01\x00ST\x00\x01\x0A\x00";
+        return tallied(t, stores(d, Request::Load, bytes1, 1, 0, x));
     }
-    let new = b"L2\x01\x00S2\x00\x01\x0A\x00\x00\x00";
-    tallied(t, stores(d, Request::Load, new, 1, 0, x))
+    let bytes2 = b"L2\x01\x00S2\x00\x01\x0A\x00\x00\x00";
+    tallied(t, stores(d, Request::Load, bytes2, 1, 0, x))
 }
 
 // Calls that are refused: no bytes, a site that is not held, a list of at least 22 bytes written out, and a site more than the table has places, or than 512.

@@ -37,11 +37,11 @@ use Rattle.desk.specs.Exports.{Given, coded, figures, differs, written, 
 -- ---- the edition of a store
 
 -- bytes that have the length of a store of an edition are told as of that edition
-own-edition : {e : Edition} (s : List ℕ) → Offered e → isOf e s ≡ true → editionIn s ≡ e
-own-edition s (inl k) long =
+told-edition : {e : Edition} (s : List ℕ) → Offered e → isOf e s ≡ true → editionIn s ≡ e
+told-edition s (inl k) long =
     let h : length s ≡ 2584 = eqb-true (length s) 2584 (subst (λ (d : Edition). isOf d s ≡ true) k long) in
     ap (λ (b : Bool). cond b edition2 edition1) (ne-eqb (length s) 4632 (λ j. omega (arith, h, j))) ∙ sym k
-own-edition s (inr k) long = ap (λ (b : Bool). cond b edition2 edition1) (subst (λ (d : Edition). isOf d s ≡ true) k long) ∙ sym k
+told-edition s (inr k) long = ap (λ (b : Bool). cond b edition2 edition1) (subst (λ (d : Edition). isOf d s ≡ true) k long) ∙ sym k
 
 -- and so every function serves it by that edition
 serves : {e : Edition} (s : List ℕ) → editionIn s ≡ e → (q : Request) → editionFor e q s ≡ e
@@ -122,7 +122,7 @@ run : {e : Edition} {s t s' t' : List ℕ} {cs : List Call} {gs : List Given} �
 unfolding AllAnswer
 run o long none = ([], start, tt, long)
 run {e} {s} {t} o long (next {s₁ = s₁} {t₁ = t₁} {c = c} {g = g} y calls) =
-    let x : Exported e s t c g s₁ t₁ = subst (λ (d : Edition). Exported d s t c g s₁ t₁) (serves s (own-edition s o long) (c .request)) y in
+    let x : Exported e s t c g s₁ t₁ = subst (λ (d : Edition). Exported d s t c g s₁ t₁) (serves s (told-edition s o long) (c .request)) y in
     let m = moved e s t s₁ t₁ c g x in
     let (rs, steps, all, last) = run o (stays-sized e s t s₁ t₁ c long m) calls in
     (call e s t c .reply ∷ rs, then (is-step e s t s₁ t₁ c long m) steps, (answers e s t s₁ t₁ c long g x, all), last)
@@ -175,7 +175,7 @@ module _ {e : Edition} {s₀ s t s' t' : List ℕ} {cs : List Call} {gs : List G
 
   -- the store's edition is still told by its length
   still : editionIn s' ≡ e
-  still = let (rs, h, all, last) = calls-history in own-edition s' o last
+  still = let (rs, h, all, last) = calls-history in told-edition s' o last
 
 -- ---- two stores that hold the same list
 

@@ -8,8 +8,8 @@ use Rattle.walks.proofs.Walk.{PlainRow, struct-row, enum-row, arrays, settled, 
 use Rattle.table.proofs.Sites1.{S, site}
 use Rattle.table.proofs.Site1 as T
 use Rattle.edition1.specs.declared.Decision1.{Decision1}
-use Rattle.edition1.specs.declared.Out1.{Out1}
 use Rattle.edition1.specs.declared.Store1.{Store1}
+use Rattle.entries1.specs.Entries1.{outOf}
 use Rattle.edition1.proofs.Store1 as K
 use Rattle.edition1.proofs.Store1.Laws as K′
 use Rattle.edition1.proofs.Out1 as O
@@ -30,10 +30,6 @@ request = enum-row Q.the-type Q′.the-laws tt Q′.the-copy Q′.the-plain Q′
 
 abbrev pub decision : PlainRow D.the-row
 decision = struct-row D.the-type D′.the-laws D′.the-copy D′.the-plain D′.lowers
-
--- what the entry gives back of a decision
-abbrev pub outOf : Decision1 → Out1
-outOf d = record { answer = d .answer; store = d .store }
 
 module _ (d : Decision1) (is : Is D.the-row d (decision .val d ∷ [])) where
   pub out-is : Is O.the-row (outOf d) (out .val (outOf d) ∷ [])

@@ -3,9 +3,15 @@ use mathlib.Core.List.{List}
 use Prim.Native.Nat.{ℕ}
 use Rattle.table.specs.declared.Site1.{Site1}
 use Rattle.edition1.specs.declared.Store1.{Store1}
+use Rattle.edition1.specs.declared.Decision1.{Decision1}
+use Rattle.edition1.specs.declared.Out1.{Out1}
 use Rattle.edition1.specs.Edition1.{entry1}
 use Rattle.store.specs.Calls.{Call, Reply}
 use Rattle.serve.specs.Entries.{Passed, call, Result, replied, Called, Calls, first, CalledOn, CallsOn}
+
+-- what the entry gives back of a decision
+abbrev pub outOf : Decision1 → Out1
+outOf d = record { answer = d .answer; store = d .store }
 
 -- what a call is passed and gives back, as the definition has it
 abbrev pub Passed1 : Type 0

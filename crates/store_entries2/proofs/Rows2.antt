@@ -8,7 +8,7 @@ use Rattle.walks.proofs.Walk.{PlainRow, struct-row, enum-row, arrays, settled, 
 use Rattle.table.proofs.Sites2.{S, site}
 use Rattle.density.proofs.Site as T
 use Rattle.store.specs.declared.Decision.{Decision as Decision2}
-use Rattle.store_entries2.specs.declared.Out2.{Out2}
+use Rattle.store_entries2.specs.Edition2.{outOf}
 use Rattle.held_state.specs.declared.Store.{Store as Store2}
 use Rattle.held_state.proofs.Store as K
 use Rattle.held_state.proofs.Store.Laws as K′
@@ -30,10 +30,6 @@ request = enum-row Q.the-type Q′.the-laws tt Q′.the-copy Q′.the-plain Q′
 
 abbrev pub decision : PlainRow D.the-row
 decision = struct-row D.the-type D′.the-laws D′.the-copy D′.the-plain D′.lowers
-
--- what the entry gives back of a decision
-abbrev pub outOf : Decision2 → Out2
-outOf d = record { answer = d .answer; store = d .store }
 
 module _ (d : Decision2) (is : Is D.the-row d (decision .val d ∷ [])) where
   pub out-is : Is O.the-row (outOf d) (out .val (outOf d) ∷ [])

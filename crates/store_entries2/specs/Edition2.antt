@@ -6,6 +6,7 @@ use Rattle.records.specs.Format.{edition2}
 use Rattle.held_state.specs.declared.Store.{Store}
 use Rattle.held_state.specs.Held.{State, on}
 use Rattle.store.specs.declared.Request.{Request}
+use Rattle.store.specs.declared.Decision.{Decision}
 use Rattle.store.specs.Calls.{Call, told}
 use Rattle.store.specs.State.{Done, bare}
 use Rattle.serve.specs.Entries.{Typed, Entry}
@@ -34,6 +35,10 @@ entry2 =
       request = λ q. q;
       fresh = bare 0;
     }
+
+-- what the entry gives back of a decision
+abbrev pub outOf : Decision → Out2
+outOf d = record { answer = d .answer; store = d .store }
 
 -- what an entry gives back, with the table and the buffer as it left them
 abbrev pub turned2 : Out2 → List Site → List ℕ → Done

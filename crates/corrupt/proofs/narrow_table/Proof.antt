@@ -13,14 +13,14 @@ abbrev μ-loop : tie.MeasureT-loop
 loop-holds : tie.Need-loop-holds Inv-loop μ-loop
 loop-holds c = omega arith
 
-mul-narrow-site : tie.Need-mul-narrow-site Inv-loop μ-loop
-mul-narrow-site c = omega arith
+mul-narrow-low : tie.Need-mul-narrow-low Inv-loop μ-loop
+mul-narrow-low c = omega arith
 
-array-copy-out-narrow-site : tie.Need-array-copy-out-narrow-site Inv-loop μ-loop
-array-copy-out-narrow-site c = omega arith
+array-copy-out-narrow-low : tie.Need-array-copy-out-narrow-low Inv-loop μ-loop
+array-copy-out-narrow-low c = omega arith
 
-narrow-site-requires : tie.Need-narrow-site-requires Inv-loop μ-loop
-narrow-site-requires c κs = tt
+narrow-low-requires : tie.Need-narrow-low-requires Inv-loop μ-loop
+narrow-low-requires c κs = tt
 
 mul-a : tie.Need-mul-a Inv-loop μ-loop
 mul-a c = omega arith
@@ -47,9 +47,9 @@ narrow-table-spec =
     Inv-loop
     μ-loop
     loop-holds
-    mul-narrow-site
-    array-copy-out-narrow-site
-    narrow-site-requires
+    mul-narrow-low
+    array-copy-out-narrow-low
+    narrow-low-requires
     mul-a
     array-set-from-a
     add-k

@@ -30,7 +30,8 @@ use Rattle.serve.specs.Stored.{storedOf, Among}
 use Rattle.serve.proofs.Places as P
 use Rattle.serve.proofs.PlacesRow.{places, from-fits, to-fits}
 use Rattle.serve.proofs.StoredSteps.{among, seen-steps}
-use Rattle.entries1.proofs.Rows1.{store, out, request, decision, outOf, out-is, sites-are, n-fits, count-fits}
+use Rattle.entries1.specs.Entries1.{outOf}
+use Rattle.entries1.proofs.Rows1.{store, out, request, decision, out-is, sites-are, n-fits, count-fits}
 use Rattle.entries1.proofs.stored1 as stored1
 use Rattle.entries1.proofs.stored1.Symbol as stored1-def
 use Rattle.entries1.proofs.stored1.Met as stored1-thm

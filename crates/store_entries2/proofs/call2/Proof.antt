@@ -21,7 +21,7 @@ use Rattle.records.specs.Format.{edition2}
 use Rattle.store.specs.Calls.{told}
 use Rattle.store.specs.State.{step}
 use Rattle.serve.specs.Serve.{Served}
-use Rattle.store_entries2.specs.Edition2.{view2, callOf2, Typed2, turned2}
+use Rattle.store_entries2.specs.Edition2.{outOf, view2, callOf2, Typed2, turned2}
 use Rattle.held_state.proofs.Store as K
 use Rattle.store.proofs.Request as Q
 use Rattle.store.proofs.Decision as D
@@ -31,7 +31,7 @@ use Rattle.serve.specs.Stored.{storedOf, Among}
 use Rattle.serve.proofs.Places as P
 use Rattle.serve.proofs.PlacesRow.{places, from-fits, to-fits}
 use Rattle.serve.proofs.StoredSteps.{among, stored-steps}
-use Rattle.store_entries2.proofs.Rows2.{store, out, request, decision, outOf, out-is, sites-are, n-fits, count-fits}
+use Rattle.store_entries2.proofs.Rows2.{store, out, request, decision, out-is, sites-are, n-fits, count-fits}
 use Rattle.serve.proofs.stored as stored-fn
 use Rattle.serve.proofs.stored.Symbol as stored-fn-def
 use Rattle.serve.proofs.stored.Met as stored-fn-thm
