@@ -1,5 +1,5 @@
 /* Sulgheti: fair-load plans for two-depot supply. The proved engine as static libraries for x86-64 Linux
- * (System V calling convention): Check and Make in libengine.a, the desk in libdesk.a.
+ * (System V calling convention): Check, Make and the converter in libengine.a, the desk in libdesk.a.
  *
  * Every pointer must be valid for its length and must not be NULL, also where the length is 0. Buffers of
  * bytes may stand anywhere: no alignment is asked of them. What a function writes must not overlap
@@ -8,11 +8,12 @@
  * questions (share, depot, difference, written, at_least) and list may: a load, a change or an added site that
  * succeeds writes store and table, a proposal that succeeds the store. What a function takes as const it has no
  * right to write: the proved function has it as a slice that is only read (&[u8]). A refused call leaves every
- * byte as it was; tests/c/read_only_t.c asks questions, has the list written out and calls refused on pages that
- * cannot be written.
+ * byte as it was; tests/c/read_only_t.c asks questions, has the list written out, lists and plans converted and calls
+ * refused on pages that cannot be written.
  *
- * A function that writes a list or a plan (make, written, list) writes it to the front of the buffer, answers the
- * length that it wrote, and leaves the bytes behind it as they were.
+ * A function that writes a list or a plan (make, written, list, upgrade_list, downgrade_list) writes it to the front of
+ * the buffer, answers the length that it wrote, and leaves the bytes behind it as they were. One that writes both, each
+ * into a buffer of its own (upgrade_plan, downgrade_plan), answers the list's length.
  *
  * A refusal is the negated number of the first row that applies (README.md, "What a refusal means"), and
  * SULGHETI_CORRUPT for row 0. SULGHETI_NO_STORE is no row: the store's length is that of no store that the call
@@ -32,10 +33,11 @@
  * edition 1, whose row 1 refuses it where it does not begin 4C 53.
  *
  * Which calls serve which edition. Check and Make take a list of either edition; a plan passes only with a list of
- * its own edition, and row 7 refuses the other; Make writes in the list's edition. A store is of edition 1 or 2 too,
- * told by its length, and takes lists and plans of its own edition only: row 1 or row 7 refuses the other. All calls
- * of the desk but fresh, change and add have one function for either edition. Those three serve edition 1, and
- * fresh2, change2 and add2 serve edition 2: litres are 16 bits in the one and 32 in the other.
+ * its own edition, and row 7 refuses the other; Make writes in the list's edition. Upgrade takes edition 1 and writes
+ * edition 2, downgrade takes edition 2 and writes edition 1: row 1 or row 7 refuses the other. A store is of edition 1
+ * or 2 too, told by its length, and takes lists and plans of its own edition only: row 1 or row 7 refuses the other.
+ * All calls of the desk but fresh, change and add have one function for either edition. Those three serve edition 1,
+ * and fresh2, change2 and add2 serve edition 2: litres are 16 bits in the one and 32 in the other.
  *
  * Figures. A site is carried by the later of its two depots' groups. Of a group:
  *   q  its size, the number of its depots
@@ -68,15 +70,17 @@
 #define SULGHETI_STORE2_BYTES 4632
 #define SULGHETI_PLACE2_BYTES 6
 
-/* The stack in bytes that suffices, in either edition, for sulgheti_check, for sulgheti_make, for sulgheti_fresh
- * and sulgheti_fresh2, for a question (share, depot, difference, written, at_least) and for list, and for any
- * other call of the desk (load, change, change2, add, add2, propose). Measured at 512 sites and rounded up; the
+/* The stack in bytes that suffices, in either edition, for sulgheti_check, for sulgheti_make, for each of the four
+ * functions that convert (upgrade_list, upgrade_plan, downgrade_list, downgrade_plan), for sulgheti_fresh and
+ * sulgheti_fresh2, for a question (share, depot, difference, written, at_least) and for list, and for any other call
+ * of the desk (load, change, change2, add, add2, propose). Measured at 512 sites and rounded up; the
  * frames have fixed sizes, and nothing recurses. Under lazy binding the program's first call of memcpy or memset
  * may take more, since the dynamic linker looks the function up on the same stack: some 3 KB where it was
  * measured. The stated figures have room for that, 8,000 bytes or more. tests/c/stack_t.c makes every call on so
  * much and no more, and prints what each wrote. A thread with 128 KB of stack can make every call. */
 #define SULGHETI_STACK_CHECK 49152
-#define SULGHETI_STACK_MAKE 65536
+#define SULGHETI_STACK_MAKE 73728
+#define SULGHETI_STACK_CONVERT 65536
 #define SULGHETI_STACK_FRESH 8192
 #define SULGHETI_STACK_QUESTION 40960
 #define SULGHETI_STACK_DESK 65536
@@ -102,6 +106,35 @@ int64_t sulgheti_check(const uint8_t *list, size_t list_len, const uint8_t *plan
  * to 6 of the list, 20 where out is too short. The bytes behind the plan are unchanged. SULGHETI_PLAN2_MAX bytes
  * always suffice. */
 int64_t sulgheti_make(const uint8_t *list, size_t list_len, uint8_t *out, size_t out_len);
+
+/* The converter: files between editions. Upgrade turns a list of edition 1, and with it its plan, into edition 2;
+ * downgrade turns them from edition 2 into edition 1. The same sites, groups and shares in the same order are written
+ * in the other edition's records, so that a plan that passes with its list passes after too, and what went there and
+ * back has the same bytes. Nothing is converted in place: list_out, plan_out and what plan_written points to overlap
+ * neither each other nor list or plan. */
+
+/* Writes the list in the other edition to the front of out and answers its length, 4 + 8 x sites by upgrade and
+ * 4 + 6 x sites by downgrade; otherwise -row: rows 1 to 6 of the list in the edition that the function takes; by
+ * downgrade 21 where a site's litres are not 1 to 65,535, all that edition 1 has; 20 where out is too short. The bytes
+ * behind the list are unchanged, and all of out where a row refuses. SULGHETI_LIST2_MAX bytes always suffice, and by
+ * downgrade SULGHETI_LIST_MAX. */
+int64_t sulgheti_upgrade_list(const uint8_t *list, size_t list_len, uint8_t *out, size_t out_len);
+int64_t sulgheti_downgrade_list(const uint8_t *list, size_t list_len, uint8_t *out, size_t out_len);
+
+/* Writes the list so to the front of list_out and its plan to the front of plan_out, answers the list's length and
+ * puts the plan's, 5 + 10 x groups + 10 x sites by upgrade and 5 + 10 x groups + 6 x sites by downgrade, into
+ * *plan_written; otherwise -row: rows 1 to 6 of the list; by downgrade 21; rows 7 to 16 of the plan, tried in the
+ * edition that the function takes, as sulgheti_check tries them; 20 where list_out is too short for the list, then 20
+ * where plan_out is too short for the plan. Where the list is refused, by row 21 too, the plan is not read. The bytes
+ * behind list and plan are unchanged, and where a row refuses all of list_out and plan_out, and *plan_written.
+ * SULGHETI_LIST2_MAX and SULGHETI_PLAN2_MAX bytes always suffice, and by downgrade SULGHETI_LIST_MAX and
+ * SULGHETI_PLAN_MAX. */
+int64_t sulgheti_upgrade_plan(const uint8_t *list, size_t list_len, const uint8_t *plan, size_t plan_len,
+                              uint8_t *list_out, size_t list_out_len, uint8_t *plan_out, size_t plan_out_len,
+                              size_t *plan_written);
+int64_t sulgheti_downgrade_plan(const uint8_t *list, size_t list_len, const uint8_t *plan, size_t plan_len,
+                                uint8_t *list_out, size_t list_out_len, uint8_t *plan_out, size_t plan_out_len,
+                                size_t *plan_written);
 
 /* The desk. Each call but sulgheti_fresh and sulgheti_fresh2 gets the store and the table as the one before left
  * them. A store whose length is that of no edition is refused by SULGHETI_NO_STORE by every call, load too, and a

@@ -29,6 +29,23 @@ for text in samples/*.txt; do
     done
 done
 
+# a sample's list and its plan in edition 2, as README has it, are the list that `list.sh -2` writes and a plan that passes, and go back to the same bytes
+both_ways() {
+    local list list2 plan n m up down
+    list=$(tools/list.sh "$1" | hex)
+    list2=$(tools/list.sh -2 "$1" | hex)
+    read -r _ n plan < <(echo "make $list 3717" | target/bin/console)
+    plan=${plan:0:2*n}
+    read -r _ n m up down < <(echo "upgrade $list $plan 4100 5765" | target/bin/console)
+    [ "${up:0:2*n}" = "${list2^^}" ] || fail "$1: upgraded, it is not the list that list.sh -2 writes"
+    [ "$(echo "check ${up:0:2*n} ${down:0:2*m}" | target/bin/console)" = passes ] || fail "$1: upgraded, its plan does not pass"
+    read -r _ n m list2 down < <(echo "downgrade ${up:0:2*n} ${down:0:2*m} 3076 3717" | target/bin/console)
+    [ "${list2:0:2*n} ${down:0:2*m}" = "${list^^} $plan" ] || fail "$1: there and back are other bytes"
+}
+for name in coast nine t two; do both_ways "samples/$name.txt"; done
+read -r answer _ < <(echo "downgrade $(tools/list.sh -2 samples/aquatic.txt | hex) 3076" | target/bin/console | cut -d' ' -f1,2 | tr ' ' _)
+[ "$answer" = refused_21 ] || fail "aquatic.txt: downgraded, it is not refused by row 21"
+
 # a desk's list in a file, as README has it: changed, with a site more, written out and read by `plan`; unchanged it is the file that was loaded
 written_out() {
     read -r _ length bytes < <(printf '%s\n' "$@" 'list 4100' | target/bin/console | tail -n 1)

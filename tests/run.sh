@@ -48,11 +48,11 @@ declared=$(sed -n 's/^int64_t \(sulgheti_[a-z0-9_]*\)(.*/\1/p' include/sulgheti.
 echo "libengine.a, libdesk.a: need memcpy and memset alone, export the $(echo "$declared" | wc -l) functions of the header"
 
 # the C programs; memcpy and memset are looked up before main (-z now), so that the stack that stack_t prints is the calls' own
-for name in check_t desk_t read_only_t stack_t; do
+for name in check_t convert_t desk_t read_only_t stack_t; do
     "${CC:-cc}" -std=c99 -Wall -Wextra -Werror -O2 -pthread -Wl,-z,now -Iinclude "tests/c/$name.c" "$SULGHETI_LIB/libengine.a" "$SULGHETI_LIB/libdesk.a" -o "target/$name"
     "target/$name" || { echo "$name: failed, status $?"; exit 1; }
 done
-echo "check_t, desk_t, read_only_t, stack_t: from C, in either edition, T's plan passes and is held, a list is written out and loaded again, questions are asked and the list is written out in memory that cannot be written, a store of another length or of the other edition is not read, every call runs on the stated stack"
+echo "check_t, convert_t, desk_t, read_only_t, stack_t: from C, in either edition, T's plan passes and is held, a list is written out and loaded again, a list and its plan go from one edition's desk to the other's and back, questions are asked, the list is written out and a list and its plan are converted in memory that cannot be written, a store of another length or of the other edition is not read, every call runs on the stated stack"
 
 # the wrapper's example and words, then the cases
 export CARGO_TARGET_DIR=$PWD/target/cargo

@@ -1,5 +1,5 @@
 #!/usr/bin/env python3
-"""Writes the console's script of calls and the answers that it must print, from document 01 and requests a, b and c of document 02 alone.
+"""Writes the console's script of calls and the answers that it must print, from document 01 and requests a to d of document 02 alone.
 
   rows_script.py DIR           writes DIR/stdin and DIR/stdout
   rows_script.py DIR PROGRAM   the same, with the answers of the part `make` taken from the program, and shows which of them differ from what is written here
@@ -7,6 +7,7 @@
 Lists and plans are written here, plans are made here (by counting over all sets, for lists of few depots), and each is held to the definition here before it is used; no code of the engine is called.
 Cases are written once, over an edition: `Edition` has its marks and widths, and edition 2 is put to the parts of edition 1, with a choice of the cases in which a width plays no part (`some`).
 The answer of a check is the row that the case is written for. It is compared with a plain reading of the table (`first_row`), and a difference stops the script.
+What is converted between the editions is read here as figures and written here in the other edition (`converted`); it is held to the rows there, and to the first bytes on the way back.
 The answers of the desk's calls are those of `Book`, document 01's plain book with the question of request a and the writer of request b, of either edition: whether a proposal is true is counted over all sets, and held to the rows.
 """
 import subprocess
@@ -265,6 +266,26 @@ def plan_row(e, sites, plan_bytes):
     return 0
 
 
+# ---- between the editions
+
+WAYS = {"upgrade": (E1, E2), "downgrade": (E2, E1)}
+
+
+def converted(way, list_bytes, plan_bytes=None):
+    """Document 02, d: the row but for row 20, and the records with the same figures in the other edition: the list, and the plan where one is given along with it."""
+    e, other = WAYS[way]
+    row = list_row(e, list_bytes)
+    if row:
+        return row, None
+    sites = sites_in(e, list_bytes)
+    if way == "downgrade" and not all(1 <= w <= 65535 for _, _, w in sites):
+        return 21, None
+    if plan_bytes is None:
+        return 0, [other.list(sites)]
+    row = plan_row(e, sites, plan_bytes)
+    return (row, None) if row else (0, [other.list(sites), other.plan(*plan_in(e, plan_bytes))])
+
+
 # ---- the plain book
 
 counted = {}
@@ -387,6 +408,7 @@ class Book:
 # ---- the script
 
 lines, answers = [], []
+checks = []  # what was put to `check`: words, list, plan and row
 
 
 def text(bs):
@@ -404,6 +426,7 @@ def say(words):
 def check(words, list_bytes, plan_bytes, row):
     found = first_row(list_bytes, plan_bytes)
     assert found == row, (words, "meant", row, "read", found)
+    checks.append((words, list_bytes, plan_bytes, row))
     say(words)
     lines.append(f"check {text(list_bytes)} {text(plan_bytes)}")
     answers.append(f"refused {row}" if row else "passes")
@@ -1456,6 +1479,264 @@ def part_histories(e, histories, least):
     assert done >= least, done
 
 
+def other_way(way):
+    return next(x for x in WAYS if x != way)
+
+
+def convert(words, way, row, given, *sizes):
+    """A line of one way: a list, or a list and its plan, and the length of a buffer for each. The row is the one that the case is written for, 0 for none."""
+    found, records = converted(way, *given)
+    if not found:
+        assert list_row(WAYS[way][1], records[0]) == 0 and (len(given) == 1 or first_row(*records) == 0), words  # a plan that passed passes after
+        assert converted(other_way(way), *records) == (0, list(given)), words
+        found = 20 if any(n < len(r) for n, r in zip(sizes, records)) else 0
+    assert found == row and len(sizes) == len(given), (words, way, "meant", row, "found", found)
+    if words:
+        say(words)
+    lines.append(" ".join([way] + [text(x) for x in given] + [str(n) for n in sizes]))
+    buffers = [b"\xA5" * n for n in sizes]
+    if not row:
+        buffers = [r + b[len(r):] for r, b in zip(records, buffers)]
+    lengths = "" if row else " ".join(str(len(r)) for r in records)
+    answers.append(" ".join([f"refused {row}" if row else f"length {lengths}" if len(given) == 1 else f"lengths {lengths}"] + [text(b) for b in buffers]))
+
+
+def there_and_back(words, way, *given):
+    """Both ways, into buffers of just the length: what the first line writes is put to the second, which writes the first bytes."""
+    convert(words, way, 0, given, *map(len, converted(way, *given)[1]))
+    written = tuple(bytes.fromhex(x) for x in answers[-1].split()[-len(given):])
+    convert("and back", other_way(way), 0, written, *map(len, given))
+    assert answers[-1].split()[-len(given):] == [text(x) for x in given]
+
+
+def refused_plans(e, w):
+    """For each of rows 7 to 16 a list of litres w and a plan that the row refuses."""
+    one, plan = e.list([(0, 1, w)]), e.plan([{0, 1}], [w])
+    other = E2 if e is E1 else E1
+    cases = [(7, one, b""), (7, one, b"PM" + plan[2:]), (7, one, other.plan([{0, 1}], [10])), (8, one, e.plan_head("410100")), (9, one, e.plan_head("010200")), (10, one, plan + b"\0"),
+             (11, one, plan.replace(e.share_mark, b"SG")), (12, one, e.plan([{0}, {0, 1}], [w])), (13, one, e.plan([{0}], [w])), (14, one, e.plan([{0, 1}], [2 * w + 1])),
+             (15, one, e.plan([{0, 1}], [w + 1])), (16, e.list([own(0, w), own(1, w)]), e.plan([{0}, {1}], [w, w]))]
+    for row, list_bytes, plan_bytes in cases:
+        assert first_row(list_bytes, plan_bytes) == row
+    return cases
+
+
+def part_convert(way, cases):
+    """The cases are checks of lists and plans of the way's edition."""
+    e, other = WAYS[way]
+    say(f"{way}: lists and plans of edition {1 if e is E1 else 2} that were put to `check`. A plan that passes is converted along with its list; another gets the row that it got there"
+        + (", or row 21 by its list." if e is E2 else "."))
+    small = [x for x in cases if len(x[1]) != e.list_length(512) and not x[0].startswith("the plan of the list before")]
+    for i, (words, list_bytes, plan_bytes, row) in enumerate(small):
+        found, records = converted(way, list_bytes, plan_bytes)
+        assert found == row or found == 21 and row not in range(1, 7), words
+        convert(words if found == row else f"{words}; here row 21", way, found, (list_bytes, plan_bytes), *(map(len, records) if records else ((24, 48), (24, 48), (11, 0), (24, 48), (0, 13))[i % 5]))
+    say("The same lists alone.")
+    seen = set()
+    for i, (_, list_bytes, _, row) in enumerate(small):
+        if list_bytes not in seen and len(list_bytes) < 1000:
+            seen.add(list_bytes)
+            found, records = converted(way, list_bytes)
+            assert found == row if row in range(1, 7) else found in (0, 21)
+            convert(None, way, found, (list_bytes,), len(records[0]) if records else (24, 24, 0)[i % 3])
+    say("A list of the other edition: row 1, whatever the plan and the buffers.")
+    for sites, groups, shares in (([], [], []), ([(0, 1, 10)], [{0, 1}], [10]), (NINE_ONE, [{0, 1}, {2}], [9, 0])):
+        convert(None, way, 1, (other.list(sites),), 40)
+        for plan in (other.plan(groups, shares), e.plan(groups, shares), b""):
+            convert(None, way, 1, (other.list(sites), plan), 40, 60)
+    convert(None, way, 1, (other.T,), 0)
+    convert(None, way, 1, (other.T, other.TP), 0, 0)
+    if e is E2:
+        convert("row 1 and not row 21: litres of 65,535 in edition 1", way, 1, (E1.list([own(0, 65535)] * 4), E1.plan([{0}], [65535] * 4)), 40, 60)
+    convert("row 3: the mark of this edition, the record of the other", way, 3, (e.list_mark + other.T[2:],), 12)
+    convert("no sites: the mark alone tells", way, 0, (e.list_mark + other.list([])[2:],), 4)
+    say("A plan of the other edition: row 7.")
+    for sites, groups, shares in (([], [], []), ([(0, 1, 10)], [{0, 1}], [10]), (NINE_ONE, [{0, 1}, {2}], [9, 0])):
+        convert(None, way, 7, (e.list(sites), other.plan(groups, shares)), 40, 60)
+    convert("the same, buffers too short", way, 7, (e.T, other.TP), 0, 0)
+    convert("row 10: the mark of this edition, the share of the other", way, 10, (e.T, e.plan_mark + other.TP[2:]), 12, 25)
+    convert("row 11: the other edition's share mark", way, 11, (e.T, e.TP[:-e.share_bytes] + e.share(10, other.share_mark)), 12, 25)
+
+
+def part_convert_buffers(way):
+    e, other = WAYS[way]
+    say(f"{way}: buffers of the length, longer and shorter. Bytes behind what is written stay as they were; where one of two is too short, neither is written.")
+    for words, sites, groups, shares in (("T", [(0, 1, 10)], [{0, 1}], [10]), ("no sites", [], [], []), ("two groups", NINE_ONE, [{0, 1}, {2}], [9, 0])):
+        a, b = e.list(sites), e.plan(groups, shares)
+        n, m = other.list_length(len(sites)), other.plan_length(len(groups), len(sites))
+        say(f"{words}: {n} and {m} bytes")
+        for k in sorted({0, 3, n - 1, n, n + 1, n + 7, len(a)}):
+            convert(None, way, 20 if k < n else 0, (a,), k)
+        pairs = ((n, m), (n - 1, m), (n, m - 1), (n - 1, m - 1), (n + 3, m + 2), (n - 1, m + 40), (n + 40, m - 1), (0, m), (n, 0), (0, 0), (n + 1, m), (n, m + 1), (m, n), (len(a), len(b)), (n + m, 4))
+        for k, j in pairs if words == "T" else pairs[:9]:
+            convert(None, way, 20 if k < n or j < m else 0, (a, b), k, j)
+    say("The largest buffer.")
+    if e is E1:
+        convert(None, way, 0, (e.T,), 8192)
+        convert(None, way, 0, (e.T, e.TP), 8192, len(other.TP))
+    else:
+        convert(None, way, 0, (e.T, e.TP), len(other.T), 8192)
+    say("Rows 7 to 16 with buffers too short: the plan's row, and not row 20.")
+    for row, list_bytes, plan_bytes in refused_plans(e, 10):
+        convert(None, way, row, (list_bytes, plan_bytes), 0, 0)
+        convert(None, way, row, (list_bytes, plan_bytes), *((len(other.T) - 1, 60) if row % 2 else (60, 4)))
+    say("Rows 1 to 6 with buffers too short.")
+    for row, list_bytes in ((1, b""), (2, e.list_head("0102")), (3, e.T[:-1]), (4, e.T.replace(e.site_mark, b"SU")), (5, e.list([(0, 64, 10)])), (6, e.list([(0, 1, 0)]))):
+        convert(None, way, row, (list_bytes,), 0)
+        convert(None, way, row, (list_bytes, e.TP if row % 2 else b""), 0, 0)
+
+
+def part_convert_litres():
+    def one(w):
+        return E2.list([(0, 1, w)]), E2.plan([{0, 1}], [w])
+
+    say("downgrade, row 21: litres 1 to 65,535 fit.")
+    for w in (1, 255, 256, 65534, 65535):
+        convert(f"litres {w:,}", "downgrade", 0, one(w)[:1], 10)
+        convert(None, "downgrade", 0, one(w), 10, 21)
+        convert("and there", "upgrade", 0, (E1.list([(0, 1, w)]), E1.plan([{0, 1}], [w])), 12, 25)
+    say("Above 65,535, also where the low two bytes are 0 or would fit.")
+    for w in (65536, 65537, 65546, 70000, 131071, 16777216, 2 ** 31, 2 ** 32 - 65536, 2 ** 32 - 1):
+        convert(f"litres {w:,}", "downgrade", 21, one(w)[:1], 10)
+        convert(None, "downgrade", 21, one(w), 10, 21)
+    say("The first, the middle, the last and every one of three sites.")
+    for chosen in ([0], [1], [2], [0, 1, 2]):
+        sites = [(0, 1, 65536 if 0 in chosen else 65535), (1, 2, 65536 if 1 in chosen else 65535), (2, 0, 65536 if 2 in chosen else 65535)]
+        groups = definition(sites)
+        convert(None, "downgrade", 21, (E2.list(sites),), 22)
+        convert(None, "downgrade", 21, (E2.list(sites), E2.plan(groups, shares_of(sites, groups))), 22, 60)
+    sites = [(0, 1, 65535), (1, 2, 65535), (2, 0, 65535)]
+    there_and_back("all three of 65,535, W 196,605: a share above 65,535 fits", "downgrade", E2.list(sites), E2.plan([{0, 1, 2}], [196605] * 3))
+    there_and_back("own 0 three times of 65,535: W is no figure of a site", "downgrade", E2.list([own(0, 65535)] * 3), E2.plan([{0}], [65535] * 3))
+    say("Row 21 with a plan that rows 7 to 16 refuse: 21. For litres that fit, such a plan gets its own row.")
+    for (_, list_bytes, plan_bytes), (row, fits, same) in zip(refused_plans(E2, 65536), refused_plans(E2, 65535)):
+        convert(None, "downgrade", 21, (list_bytes, plan_bytes), 16, 37)
+        convert(None, "downgrade", row, (fits, same), 16, 37)
+    say("Row 21 with buffers too short: 21.")
+    for given, sizes in ((one(65536)[:1], (0,)), (one(65536)[:1], (9,)), (one(65536), (0, 0)), (one(65536), (9, 21)), (one(65536), (10, 20)), ((one(65536)[0], b""), (0, 0))):
+        convert(None, "downgrade", 21, given, *sizes)
+    say("Rows 1 to 6 in a list that has a site of 65,536 litres too: the list's row, and not row 21.")
+    two, big = E2.list([(0, 1, 65536), (0, 1, 10)]), (0, 1, 65536)
+    for row, list_bytes in ((1, b"L3" + two[2:]), (1, b"LS" + two[2:]), (2, E2.list([big], count=513)), (3, two[:-1]), (3, two + b"\0"), (4, E2.list([big, (0, 1, 10, b"SU")])),
+                            (4, E2.list([big, (0, 1, 10, b"ST")])), (5, E2.list([big, (0, 64, 10)])), (6, E2.list([big, (0, 1, 0)])), (6, E2.list([(0, 1, 0), big]))):
+        convert(None, "downgrade", row, (list_bytes,), 16)
+        convert(None, "downgrade", row, (list_bytes, E2.plan([{0, 1}], [65536, 10])), 16, 27)
+    say("Going there no litres are refused by row 21: two bytes have none above 65,535.")
+    there_and_back("own 0 of 65,535, (0,1) of 65,535, own 1 of 1", "upgrade", E1.list([own(0, 65535), (0, 1, 65535), own(1, 1)]), E1.plan([{0, 1}], [131070, 1, 2]))
+
+
+def part_convert_back():
+    say("There and back: what one line writes is put to the next, which writes the first bytes.")
+    ends = [(63, 0, 65535), (0, 63, 1), (0, 63, 1), own(63, 256), own(0, 255), (63, 0, 65535)]
+    marks = [own(0, 0x5453), (0, 1, 0x3253), (1, 0, 0x4853), (2, 1, 0x3353), own(2, 0x534C), (0, 2, 0x324C)]  # litres whose bytes are marks
+    for way, (e, _) in WAYS.items():
+        say(way)
+        there_and_back("T", way, e.T)
+        there_and_back("T and its plan", way, e.T, e.TP)
+        if e is E1:
+            there_and_back("no sites", way, e.list([]))
+        else:
+            there_and_back("no sites, and their plan", way, e.list([]), e.plan([], []))
+        for words, sites in (("equal sites, the ends of depots and litres, the order of sites and of a site's two depots", ends), ("litres whose bytes are marks", marks), ("the nine sites", NINE)):
+            groups = definition(sites)
+            if e is E1:
+                there_and_back(f"{words}: the list alone", way, e.list(sites))
+            shares = (shares_of if e is E1 else turned)(sites, groups)
+            assert is_true(e, sites, e.plan(groups, shares))
+            there_and_back(f"{words}: with a plan", way, e.list(sites), e.plan(groups, shares))
+    falls = [own(d, 64 - d) for d in range(64)]
+    there_and_back("64 groups", "downgrade", E2.list(falls), E2.plan([{d} for d in range(64)], [w for _, _, w in falls]))
+    say("Small networks, drawn by a fixed rule, with a true plan, and a plan near it.")
+    draw = drawn(4)
+    for k in range(16):
+        way = ("upgrade", "downgrade")[k % 2]
+        e, depots, most = WAYS[way][0], 2 + draw(5), (2, 20, 300, 65535)[k // 2 % 4]
+        sites = [(draw(depots), draw(depots), 1 + draw(most)) for _ in range(1 + draw(8))]
+        groups = groups_of(sites)
+        shares = (shares_of, turned)[draw(2)](sites, groups)
+        there_and_back(f"network {k}", way, e.list(sites), e.plan(groups, shares))
+        near = near_miss(e, draw, sites, groups, shares)
+        row = first_row(e.list(sites), near)
+        assert is_true(e, sites, near) == (row == 0)
+        convert("a plan near it", way, row, (e.list(sites), near), WAYS[way][1].list_length(len(sites)), 99)
+    say("512 sites: document 01's, own i mod 64 of 65,535, one group of 64.")
+    there_and_back("512 sites", "upgrade", E1.list(E1.LARGE), E1.LARGE_PLAN)
+    longest = [own(i % 64, 65535 - i % 64) for i in range(512)]
+    plan = [{d} for d in range(64)], [w for _, _, w in longest]
+    there_and_back("64 groups of 512 sites, the longest plan: 3,076 and 3,717 bytes, 4,100 and 5,765", "upgrade", E1.list(longest), E1.plan(*plan))
+    assert tuple(map(len, converted("upgrade", E1.list(longest), E1.plan(*plan))[1])) == (4100, 5765)
+    there_and_back("the list alone", "downgrade", E2.list(longest))
+    convert("the list's buffer one byte short, the plan's wanting altogether", "downgrade", 20, (E2.list(longest), E2.plan(*plan)), 3075, 0)
+    convert("the plan's one byte short", "downgrade", 20, (E2.list(longest), E2.plan(*plan)), 3076, 3716)
+    convert("only the last site's litres too many", "downgrade", 21, (E2.list(longest[:-1] + [own(63, 65536)]),), 40)
+    convert("512 sites, own i mod 64 of 4,294,967,295", "downgrade", 21, (E2.list(E2.LARGE), E2.LARGE_PLAN), 40, 60)
+
+
+def part_convert_lines():
+    say("Lines that are no upgrade or downgrade.")
+    for way, (e, other) in WAYS.items():
+        T, TP, n, m = text(e.T), text(e.TP), len(other.T), len(other.TP)
+        for line in (f"{way}", f"{way} {T}", f"{way} {n}", f"{way} {T} {TP}", f"{way} {T} {TP} {n}", f"{way} {T} {n} {m}", f"{way} {T} {TP} {n} {m} 1", f"{way} {T} {TP} {n} {m} -",
+                     f"{way} {T} 8193", f"{way} {T} {TP} 8193 {m}", f"{way} {T} {TP} {n} 8193", f"{way} {T} -1", f"{way} {T} +{n}", f"{way} {T} 0x{n}", f"{way} {T} {n}.0", f"{way} {T} 1,000",
+                     f"{way} {T} {2 ** 64 + n}", f"{way} {T} {TP} {n} {2 ** 64 + m}", f"{way} {T} {TP} {2 ** 64 + n} {m}", f"{way} {T} A", f"{way} {T} {TP} A {m}", f"{way} {T} {TP} {n} A",
+                     f"{way} {T} -", f"{way} {T} {TP} - {m}", f"{way} {T} {TP} {n} -", f"{way} {T}0 {n}", f"{way} {T[:-1]}G {n}", f"{way} XY {n}", f"{way} -- {n}", f"{way} {T}0 {TP} {n} {m}",
+                     f"{way} {T[:-1]}G {TP} {n} {m}", f"{way} {T} {TP}0 {n} {m}", f"{way} {T} {TP[:-1]}G {n} {m}", f"{way} {T} -- {n} {m}", f"{way} {n} {m} {T} {TP}", f"{way} {T} {n} {TP} {m}",
+                     f"{way.upper()} {T} {n}", f"{way.title()} {T} {TP} {n} {m}", f"{way}d {T} {n}", f"{way}2 {T} {n}", f"{way.replace('grade', ' grade')} {T} {n}", f"{way[:-1]} {T} {n}", f"{way}{T} {n}"):
+            lines.append(line)
+            answers.append("bad line")
+        say("Lines that are: none for bytes, zeros in front, spaces, lower case, a plan of two digits that are a number too.")
+        convert("no list", way, 1, (b"",), 4)
+        convert("no list and no plan", way, 1, (b"", b""), 4, 5)
+        convert("no list and no bytes to write to", way, 1, (b"", b""), 0, 0)
+        convert("no plan", way, 7, (e.T, b""), n, m)
+        convert("a plan of one byte", way, 7, (e.T, b"\x12"), n, m)
+        raw("zeros in front", f"{way} {T} 00000000000000000000{n}", f"length {n} {text(other.T)}")
+        raw("the same", f"{way} {T} {TP} 00000000000000000000{n} 00000000000000000000{m}", f"lengths {n} {m} {text(other.T)} {text(other.TP)}")
+        raw("spaces", f"  {way}   {T}  {n}  ", f"length {n} {text(other.T)}")
+        raw("the same, and lower case", f"  {way}   {T.lower()}  {TP.lower()}   {n}  {m}  ", f"lengths {n} {m} {text(other.T)} {text(other.TP)}")
+        if e is E1:
+            convert("a list of 8,193 bytes", way, 3, (e.T + b"\0" * (8193 - len(e.T)), e.TP), 3, 3)
+        else:
+            convert("a plan of 8,193 bytes", way, 10, (e.T, e.TP + b"\0" * (8193 - len(e.TP))), 3, 3)
+
+
+def part_converter(cases):
+    """Before and after, the desk is asked what it holds."""
+    def held_still():
+        e = book.e
+        ask("share", 0, answer="share 10 20")
+        ask("depot", 1, answer="depot 10 2")
+        ask("written", len(e.TP), answer=f"length {len(e.TP)} {text(e.TP)}")
+        ask("list", len(e.T), answer=f"length {len(e.T)} {text(e.T)}")
+
+    say("Files between the editions. The desk, which holds T and its plan, of either edition, is left as it was.")
+    for way, (e, other) in WAYS.items():
+        for desk in (e, other):
+            table(1, desk)
+            held([(0, 1, 10)], desk.TP)
+            held_still()
+            convert("T alone", way, 0, (e.T,), len(other.T))
+            convert("T and its plan", way, 0, (e.T, e.TP), len(other.T), len(other.TP))
+            convert("another list and its plan", way, 0, (e.list(FOURS), e.plan([{0, 1}], [8, 8])), other.list_length(2), other.plan_length(1, 2))
+            convert("refused", way, 3, (e.T[:-1], e.TP), 4, 5)
+            convert("refused", way, 15, (e.T, e.plan([{0, 1}], [11])), 4, 5)
+            convert("refused", way, 20, (e.T, e.TP), 4, 5)
+            held_still()
+        part_convert(way, cases[e])
+        part_convert_buffers(way)
+        held_still()
+    part_convert_litres()
+    part_convert_back()
+    part_convert_lines()
+    say("The desk is still what it was.")
+    held_still()
+    table(3)
+    ask("share", 0, words="and a fresh one is fresh", answer="refused 17")
+    convert("T and its plan, no plan held", "upgrade", 0, (E1.T, E1.TP), 12, 25)
+    ask("share", 0, answer="refused 17")
+    ask("list", 4, answer=f"length 4 {text(book.e.list_mark)}0000")
+
+
 # what a make line answers: the plan where it is forced, else nothing is known here
 makes = []
 
@@ -1508,11 +1789,14 @@ def part_make(e):
 
 
 def main():
+    cases = {}
     for e in (E1, E2):
+        before = len(checks)
         part_examples(e)
         part_known(e)
         part_lists(e)
         part_plans(e)
+        cases[e] = checks[before:]
         part_false(e)
         part_small(e, 40 if e is E1 else 12)
         part_widths(e)
@@ -1531,6 +1815,7 @@ def main():
         part_desk_litres(e)
         part_desk_lines(e)
     part_desk_editions()
+    part_converter(cases)
     part_histories(E1, 20, 100)
     part_histories(E2, 3, 15)
     part_make(E1)

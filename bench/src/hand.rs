@@ -1,4 +1,4 @@
-//! Check and Make written by hand in plain Rust, for comparison: nothing is proved of them.
+//! Check, Make and the converter written by hand in plain Rust, for comparison: nothing is proved of them.
 //!
 //! Functions over an edition have the bytes of a place, two depots and litres, as P, those of a site's record, which has
 //! a mark before it, as R, and those of a share as S: 4, 6 and 4 in edition 1, 6, 8 and 8 in edition 2. They are compiled
@@ -174,6 +174,50 @@ pub(crate) fn plan_refusal<'a, const P: usize, const S: usize>(
         }
     }
     Ok(())
+}
+
+/// A list of edition 1 and its plan in edition 2: the lengths, the list's first, or the row.
+pub fn upgrade(list: &[u8], plan: &[u8], list_out: &mut [u8], plan_out: &mut [u8]) -> Result<(usize, usize), i64> {
+    convert::<4, 6, 4, 6, 8, 8>(list, plan, list_out, plan_out)
+}
+
+/// A list of edition 2 and its plan in edition 1.
+pub fn downgrade(list: &[u8], plan: &[u8], list_out: &mut [u8], plan_out: &mut [u8]) -> Result<(usize, usize), i64> {
+    convert::<6, 8, 8, 4, 6, 4>(list, plan, list_out, plan_out)
+}
+
+/// From the edition of P, R and S to that of P2, R2 and S2. Figures are copied from record to record: their low bytes, and
+/// 0 behind them.
+fn convert<const P: usize, const R: usize, const S: usize, const P2: usize, const R2: usize, const S2: usize>(
+    list: &[u8],
+    plan: &[u8],
+    list_out: &mut [u8],
+    plan_out: &mut [u8],
+) -> Result<(usize, usize), i64> {
+    let (sites, listed) = read::<P, R>(list, SITES)?;
+    if P > P2 && sites.iter().fold(0, |all, r| all | number(&r[4..])) > 65_535 {
+        return Err(21);
+    }
+    plan_refusal::<P, S>(sites.iter().map(unmarked), listed, plan)?;
+    let front = 5 + 10 * usize::from(plan[2]);
+    let lengths = (4 + R2 * sites.len(), front + (S2 + 2) * sites.len());
+    if list_out.len() < lengths.0 || plan_out.len() < lengths.1 {
+        return Err(20);
+    }
+    list_out[..2].copy_from_slice(&edition(P2).list);
+    list_out[2..4].copy_from_slice(&list[2..4]);
+    for (to, from) in list_out[4..].as_chunks_mut::<R2>().0.iter_mut().zip(sites) {
+        to[..2].copy_from_slice(&edition(P2).site);
+        to[2..4].copy_from_slice(&from[2..4]);
+        to[4..].copy_from_slice(&number(&from[4..]).to_le_bytes()[..R2 - 4]);
+    }
+    plan_out[..front].copy_from_slice(&plan[..front]);
+    plan_out[..2].copy_from_slice(&edition(P2).plan);
+    for (to, (_, s)) in plan_out[front..lengths.1].chunks_exact_mut(S2 + 2).zip(records::<S>(&plan[front..])) {
+        to[..2].copy_from_slice(&edition(P2).share);
+        to[2..].copy_from_slice(&number(s).to_le_bytes()[..S2]);
+    }
+    Ok(lengths)
 }
 
 /// The plan's length where one is written, otherwise -row. The method is the engine's: a stack of

@@ -15,7 +15,7 @@ use std::process::{exit, Command};
 use std::time::Instant;
 
 use engine_tests::families::{Extent, FAMILIES};
-use engine_tests::records::{list_bytes, listed, Edition, EDITIONS};
+use engine_tests::records::{list_bytes, listed, Edition, EDITIONS, ONE};
 use engine_tests::rng::Rng;
 use sulgheti::ffi;
 
@@ -63,6 +63,9 @@ fn main() {
             measure(&chosen, &counted, ["instructions"; 2], 1.0, 0);
         } else {
             measure(&chosen, &|input| timed(input, rounds), ["ns", "µs"], 1000.0, 1);
+            if edition == ONE {
+                converted(&chosen, rounds);
+            }
         }
     }
 }
@@ -211,20 +214,59 @@ fn calls(which: &str, input: &Input, n: usize) {
 
 const VERSIONS: [&str; 4] = ["sulgheti_check", "hand_check", "sulgheti_make", "hand_make"];
 
-/// Nanoseconds per call of the four versions: medians of batches, the versions in turn.
+/// Nanoseconds per call of the four versions.
 fn timed(input: &Input, rounds: usize) -> [f64; 4] {
-    let batches = VERSIONS.map(|which| {
+    medians(rounds, &mut |i, n| calls(VERSIONS[i], input, n))
+}
+
+type Convert = fn(&[u8], &[u8], &mut [u8], &mut [u8]) -> Result<(usize, usize), i64>;
+
+/// Lists with their plans from edition 1 to edition 2, and what that gives back to edition 1.
+fn converted(inputs: &[&Input], rounds: usize) {
+    let up: [Convert; 2] = [|a, b, c, d| sulgheti::upgrade_plan(a, b, c, d).map_err(|row| row.0.into()), hand::upgrade];
+    let back: [Convert; 2] =
+        [|a, b, c, d| sulgheti::downgrade_plan(a, b, c, d).map_err(|row| row.0.into()), hand::downgrade];
+    let mut new: Vec<[Vec<u8>; 2]> = inputs.iter().map(|input| [input.list.clone(), input.plan.clone()]).collect();
+    for (name, versions) in [("upgrade_plan", up), ("downgrade_plan", back)] {
+        let (mut times, mut ratios) = ([0.0; 2], Vec::new());
+        for given in &mut new {
+            let mut outs = [vec![0; sulgheti::LIST2_MAX], vec![0; sulgheti::PLAN2_MAX]];
+            let outputs = versions.map(|convert| {
+                let [list_out, plan_out] = &mut outs;
+                let (n, m) = convert(&given[0], &given[1], list_out, plan_out).expect("a list and its plan");
+                [list_out[..n].to_vec(), plan_out[..m].to_vec()]
+            });
+            assert_eq!(outputs[0], outputs[1], "{name}");
+            let [list_out, plan_out] = &mut outs;
+            let pair = medians::<2>(rounds, &mut |i, n| {
+                for _ in 0..n {
+                    let given = black_box(&*given);
+                    let _ = black_box(versions[i](&given[0], &given[1], black_box(list_out), black_box(plan_out)));
+                }
+            });
+            times = [times[0] + pair[0], times[1] + pair[1]];
+            ratios.push(pair[0] / pair[1]);
+            *given = outputs.into_iter().next().expect("two outputs");
+        }
+        let [engine, hand] = times.map(|t| t / new.len() as f64);
+        println!("{name}: {engine:.0} ns, by hand {hand:.0} ns; {}", summary(&ratios));
+    }
+}
+
+/// Nanoseconds per call of N versions, of which `run` calls one so many times: medians of batches, the versions in turn.
+fn medians<const N: usize>(rounds: usize, run: &mut dyn FnMut(usize, usize)) -> [f64; N] {
+    let batches: [usize; N] = std::array::from_fn(|i| {
         let start = Instant::now();
-        calls(which, input, 20);
+        run(i, 20);
         let each = (start.elapsed().as_nanos() / 20).max(1);
         (BATCH / each).max(1) as usize
     });
-    let mut times: [Vec<f64>; 4] = Default::default();
+    let mut times: [Vec<f64>; N] = std::array::from_fn(|_| Vec::new());
     for _ in 0..rounds {
-        for (i, which) in VERSIONS.iter().enumerate() {
+        for (i, &batch) in batches.iter().enumerate() {
             let start = Instant::now();
-            calls(which, input, batches[i]);
-            times[i].push(start.elapsed().as_nanos() as f64 / batches[i] as f64);
+            run(i, batch);
+            times[i].push(start.elapsed().as_nanos() as f64 / batch as f64);
         }
     }
     times.map(|mut t| {

@@ -1,7 +1,8 @@
 //! Safe calls of the proved engine for fair-load plans.
 //!
 //! A list and a plan are bytes as `include/sulgheti.h` lays them out, in edition 1 or 2; it says too what W, q, s and
-//! w x q are. [`check`] and [`make`] take either edition. The engine keeps nothing between calls and allocates nothing;
+//! w x q are. [`check`] and [`make`] take either edition; [`upgrade_list`], [`upgrade_plan`], [`downgrade_list`] and
+//! [`downgrade_plan`] turn one into the other. The engine keeps nothing between calls and allocates nothing;
 //! a [`Store`] (edition 1) or a [`Store2`] (edition 2) owns its bytes and its table. A thread with 128 KB of stack can
 //! make every call. `libengine.a` and `libdesk.a`, for x86-64 Linux, are looked for in the folder that `SULGHETI_LIB`
 //! names, or in the repository's `target/staticlib`.
@@ -70,6 +71,28 @@
 //! assert_eq!(file[..20], *b"L2\x02\x00S2\x00\x01\xFF\xFF\xFF\xFFS2\x01\x02\x00\x00\x01\x00");
 //! assert_eq!(sulgheti::Store::new(100).load(&file[..20]), Err(sulgheti::Row(1)));
 //! ```
+//!
+//! A list and its plan go from one edition to the other, with the same figures in the same order, and back:
+//!
+//! ```
+//! // One site of 10 litres that depots 0 and 1 supply, and its plan.
+//! let list = *b"LS\x01\x00ST\x00\x01\x0A\x00";
+//! let plan = *b"PL\x01\x01\x00GR\x03\0\0\0\0\0\0\0SH\x0A\0\0\0";
+//! let (mut list2, mut plan2) = ([0; sulgheti::LIST2_MAX], [0; sulgheti::PLAN2_MAX]);
+//! assert_eq!(sulgheti::upgrade_plan(&list, &plan, &mut list2, &mut plan2), Ok((12, 25)));
+//! assert_eq!(list2[..12], *b"L2\x01\x00S2\x00\x01\x0A\x00\x00\x00");
+//! assert_eq!(plan2[..25], *b"P2\x01\x01\x00GR\x03\0\0\0\0\0\0\0S3\x0A\0\0\0\0\0\0\0");
+//! assert_eq!(sulgheti::check(&list2[..12], &plan2[..25]), Ok(()));
+//! let (mut list1, mut plan1) = ([0; 10], [0; 21]);
+//! assert_eq!(sulgheti::downgrade_plan(&list2[..12], &plan2[..25], &mut list1, &mut plan1), Ok((10, 21)));
+//! assert_eq!((list1, plan1), (list, plan));
+//! // Each way takes one edition only, and a plan only if it passes; edition 1 has litres up to 65,535.
+//! assert_eq!(sulgheti::upgrade_list(&list2[..12], &mut [0; 12]), Err(sulgheti::Row(1)));
+//! assert_eq!(sulgheti::downgrade_plan(&list2[..12], &plan, &mut list1, &mut plan1), Err(sulgheti::Row(7)));
+//! assert_eq!(sulgheti::downgrade_list(&list2[..12], &mut [0; 9]), Err(sulgheti::Row(20)));
+//! list2[10] = 1;
+//! assert_eq!(sulgheti::downgrade_list(&list2[..12], &mut list1), Err(sulgheti::Row(21)));
+//! ```
 
 use std::fmt;
 
@@ -113,6 +136,30 @@ pub mod ffi {
     extern "C" {
         pub fn sulgheti_check(list: *const u8, list_len: usize, plan: *const u8, plan_len: usize) -> i64;
         pub fn sulgheti_make(list: *const u8, list_len: usize, out: *mut u8, out_len: usize) -> i64;
+        pub fn sulgheti_upgrade_list(list: *const u8, list_len: usize, out: *mut u8, out_len: usize) -> i64;
+        pub fn sulgheti_downgrade_list(list: *const u8, list_len: usize, out: *mut u8, out_len: usize) -> i64;
+        pub fn sulgheti_upgrade_plan(
+            list: *const u8,
+            list_len: usize,
+            plan: *const u8,
+            plan_len: usize,
+            list_out: *mut u8,
+            list_out_len: usize,
+            plan_out: *mut u8,
+            plan_out_len: usize,
+            plan_written: *mut usize,
+        ) -> i64;
+        pub fn sulgheti_downgrade_plan(
+            list: *const u8,
+            list_len: usize,
+            plan: *const u8,
+            plan_len: usize,
+            list_out: *mut u8,
+            list_out_len: usize,
+            plan_out: *mut u8,
+            plan_out_len: usize,
+            plan_written: *mut usize,
+        ) -> i64;
         pub fn sulgheti_fresh(store: *mut u8, store_len: usize) -> i64;
         pub fn sulgheti_fresh2(store: *mut u8, store_len: usize) -> i64;
         pub fn sulgheti_load(
@@ -233,6 +280,93 @@ pub fn make(list: &[u8], out: &mut [u8]) -> Result<usize, Row> {
     // SAFETY: both slices are valid for their lengths, and `out` overlaps nothing.
     let answer = unsafe { ffi::sulgheti_make(list.as_ptr(), list.len(), out.as_mut_ptr(), out.len()) };
     taken(answer)
+}
+
+/// Writes a list of edition 1 in edition 2, with the same sites in the same order, to the front of `out` and answers its
+/// length; the bytes behind it are unchanged. Refused by rows 1 to 6 and 20, a list of edition 2 by row 1, and then all
+/// of `out` is unchanged.
+///
+/// ```
+/// let mut out = [0xA5; 13];
+/// assert_eq!(sulgheti::upgrade_list(b"LS\x01\x00ST\x00\x01\xFF\xFF", &mut out), Ok(12));
+/// assert_eq!(out, *b"L2\x01\x00S2\x00\x01\xFF\xFF\x00\x00\xA5");
+/// ```
+pub fn upgrade_list(list: &[u8], out: &mut [u8]) -> Result<usize, Row> {
+    // SAFETY: both slices are valid for their lengths, and `out` overlaps nothing.
+    taken(unsafe { ffi::sulgheti_upgrade_list(list.as_ptr(), list.len(), out.as_mut_ptr(), out.len()) })
+}
+
+/// Writes a list of edition 2 in edition 1, as [`upgrade_list`] does the other way. Refused by rows 1 to 6, 21 and 20:
+/// by row 1 a list of edition 1, by row 21 litres that edition 1 does not have.
+///
+/// ```
+/// let mut out = [0xA5; 11];
+/// assert_eq!(sulgheti::downgrade_list(b"L2\x01\x00S2\x00\x01\x00\x00\x01\x00", &mut out), Err(sulgheti::Row(21)));
+/// assert_eq!(out, [0xA5; 11]);
+/// assert_eq!(sulgheti::downgrade_list(b"L2\x01\x00S2\x00\x01\xFF\xFF\x00\x00", &mut out), Ok(10));
+/// assert_eq!(out, *b"LS\x01\x00ST\x00\x01\xFF\xFF\xA5");
+/// ```
+pub fn downgrade_list(list: &[u8], out: &mut [u8]) -> Result<usize, Row> {
+    // SAFETY: both slices are valid for their lengths, and `out` overlaps nothing.
+    taken(unsafe { ffi::sulgheti_downgrade_list(list.as_ptr(), list.len(), out.as_mut_ptr(), out.len()) })
+}
+
+/// Writes a list of edition 1 and a plan that is true of it in edition 2, with the same sites, groups and shares in the
+/// same order, to the fronts of `list_out` and `plan_out` and answers both lengths, the list's first; the plan passes with
+/// the list there too. The bytes behind them are unchanged. Refused by rows 1 to 16, what is of edition 2 by row 1 or 7,
+/// and by row 20 where either buffer is too short, and then all of both is unchanged.
+///
+/// ```
+/// let list = b"LS\x01\x00ST\x00\x01\x0A\x00";
+/// let plan = b"PL\x01\x01\x00GR\x03\0\0\0\0\0\0\0SH\x0A\0\0\0";
+/// let (mut list2, mut plan2) = ([0; 12], [0; 25]);
+/// assert_eq!(sulgheti::upgrade_plan(list, plan, &mut list2, &mut plan2[..24]), Err(sulgheti::Row(20)));
+/// assert_eq!(list2, [0; 12]);
+/// assert_eq!(sulgheti::upgrade_plan(list, plan, &mut list2, &mut plan2), Ok((12, 25)));
+/// assert_eq!(sulgheti::check(&list2, &plan2), Ok(()));
+/// ```
+pub fn upgrade_plan(list: &[u8], plan: &[u8], list_out: &mut [u8], plan_out: &mut [u8]) -> Result<(usize, usize), Row> {
+    with_plan(ffi::sulgheti_upgrade_plan, list, plan, list_out, plan_out)
+}
+
+/// Writes a list of edition 2 and a plan that is true of it in edition 1, as [`upgrade_plan`] does the other way. Refused
+/// by rows 1 to 16 and 20, what is of edition 1 by row 1 or 7; and by row 21, before the plan is read, where a site's
+/// litres are outside 1 to 65,535.
+///
+/// ```
+/// let list2 = b"L2\x01\x00S2\x00\x01\x0A\x00\x00\x00";
+/// let plan2 = b"P2\x01\x01\x00GR\x03\0\0\0\0\0\0\0S3\x0A\0\0\0\0\0\0\0";
+/// let (mut list, mut plan) = ([0; 10], [0; 21]);
+/// assert_eq!(sulgheti::downgrade_plan(list2, plan2, &mut list, &mut plan), Ok((10, 21)));
+/// assert_eq!(sulgheti::check(&list, &plan), Ok(()));
+/// ```
+pub fn downgrade_plan(
+    list: &[u8],
+    plan: &[u8],
+    list_out: &mut [u8],
+    plan_out: &mut [u8],
+) -> Result<(usize, usize), Row> {
+    with_plan(ffi::sulgheti_downgrade_plan, list, plan, list_out, plan_out)
+}
+
+type WithPlan =
+    unsafe extern "C" fn(*const u8, usize, *const u8, usize, *mut u8, usize, *mut u8, usize, *mut usize) -> i64;
+
+/// A list and its plan converted by one of the two functions for them.
+fn with_plan(
+    convert: WithPlan,
+    list: &[u8],
+    plan: &[u8],
+    list_out: &mut [u8],
+    plan_out: &mut [u8],
+) -> Result<(usize, usize), Row> {
+    let (n, m, list_room, plan_room) = (list.len(), plan.len(), list_out.len(), plan_out.len());
+    let (list_out, plan_out) = (list_out.as_mut_ptr(), plan_out.as_mut_ptr());
+    let mut written = 0;
+    // SAFETY: all slices are valid for their lengths, and what is written overlaps nothing.
+    let answer =
+        unsafe { convert(list.as_ptr(), n, plan.as_ptr(), m, list_out, list_room, plan_out, plan_room, &mut written) };
+    taken(answer).map(|length| (length, written))
 }
 
 mod sealed {
@@ -459,9 +593,9 @@ fn taken(answer: i64) -> Result<usize, Row> {
 pub struct Row(pub u8);
 
 /// What each row means and what to do about it, by number, in the words of README.md.
-const TEXTS: [(&str, &str); 21] = [
+const TEXTS: [(&str, &str); 22] = [
     ("the desk or its table does not hold what a desk can hold", "the memory lent to the desk was overwritten: begin with a fresh desk and load the list again"),
-    ("the list has under 4 bytes or does not begin with 4C 53 or, in edition 2, 4C 32; or it is loaded and of the other edition than the desk", "is this a list at all? give its bytes from the first on; load it into a desk of its own edition"),
+    ("the list has under 4 bytes or does not begin with 4C 53 or, in edition 2, 4C 32; or it is loaded and of the other edition than the desk, or converted and already of the edition asked for", "is this a list at all? give its bytes from the first on; load it into a desk of its own edition; upgrade edition 1, downgrade edition 2"),
     ("the list has more than 512 sites, or more than the desk's table has places; or a site is added and there is no place left", "split the list, or lend a longer table"),
     ("the list's length is not 4 + 6 x sites or, in edition 2, 4 + 8 x sites", "it was cut off, something follows it, or the count is wrong"),
     ("a site does not begin with 53 54 or, in edition 2, 53 32", "a record is damaged or has not 6 bytes (edition 2: 8): write the list again"),
@@ -480,7 +614,8 @@ const TEXTS: [(&str, &str); 21] = [
     ("no plan is held", "propose a plan that passes first; a load, a change or an added site drops the plan held"),
     ("the site number is not on the desk", "sites are counted from 0: load or add the site first"),
     ("no site names the depot", "ask for a listed depot"),
-    ("the buffer is shorter than the plan, or than the list that is written out", "lend 5 + 10 x groups + 6 x sites bytes for a plan, 4 + 6 x sites for a list (edition 2: 10 and 8 x sites); 3,717 always suffice (edition 2: 5,765)"),
+    ("a buffer is shorter than the plan or the list that is written into it", "lend 5 + 10 x groups + 6 x sites bytes for a plan, 4 + 6 x sites for a list (written in edition 2: 10 and 8 x sites); 3,717 always suffice (edition 2: 5,765)"),
+    ("a site's litres are outside 1 to 65,535, and the list is to go back to edition 1", "edition 1 has no such litres: keep list and plan in edition 2"),
 ];
 
 impl Row {
@@ -538,7 +673,7 @@ mod tests {
     #[test]
     fn words_are_those_of_the_readme() {
         let readme = include_str!("../../README.md").replace('×', "x");
-        for n in 0..=20 {
+        for n in 0..=21 {
             let line = format!("\n| {n} | {} | {} |\n", Row(n).meaning(), Row(n).advice());
             assert!(readme.contains(&line), "{line}");
         }

@@ -1,6 +1,7 @@
 /* A desk of each edition in memory that cannot be written: questions and refused calls are answered and the list is written out, with and without
  * a plan held, for they write neither store nor table. And in memory that cannot be read either, a store of another length: every call is refused,
- * and by fresh, change and add a store of the other edition. */
+ * and by fresh, change and add a store of the other edition. Then a list and a plan in memory that cannot be written: they are converted, and where
+ * that is refused nothing is written; where the list is refused the plan is not read. */
 #define _DEFAULT_SOURCE
 #include <string.h>
 #include <sys/mman.h>
@@ -117,10 +118,62 @@ static int edition(int of) {
     return add(!of, own, n, places, m, 0, 1, 5) == SULGHETI_NO_STORE ? 0 : 46;
 }
 
+/* The function that takes lists of edition `of`, for a list alone and with its plan. */
+static int64_t convert_list(int of, const uint8_t *list, size_t n, uint8_t *out, size_t room) {
+    return of ? sulgheti_downgrade_list(list, n, out, room) : sulgheti_upgrade_list(list, n, out, room);
+}
+static int64_t convert(int of, const uint8_t *list, size_t n, const uint8_t *plan, size_t m, uint8_t *list_out, size_t list_room, uint8_t *plan_out, size_t plan_room, size_t *length) {
+    return of ? sulgheti_downgrade_plan(list, n, plan, m, list_out, list_room, plan_out, plan_room, length)
+              : sulgheti_upgrade_plan(list, n, plan, m, list_out, list_room, plan_out, plan_room, length);
+}
+
+/* 0, or which answer of the way from edition `of` is another. */
+static int conversions(int of) {
+    enum { PART = 4096, PARTS = 5 * PART };
+    uint8_t *parts = mmap(0, PARTS, PROT_READ | PROT_WRITE, MAP_PRIVATE | MAP_ANONYMOUS, -1, 0);
+    if (parts == MAP_FAILED) return 1;
+    uint8_t *list = parts, *plan = parts + PART, *list_out = parts + 2 * PART, *plan_out = parts + 3 * PART;
+    size_t *length = (size_t *)(void *)(parts + 4 * PART);
+    const size_t n = editions[of].list_len, m = editions[of].plan_len, to_n = editions[!of].list_len, to_m = editions[!of].plan_len;
+    memcpy(list, editions[of].list, n);
+    memcpy(plan, editions[of].plan, m);
+    *length = 7;
+    /* list and plan are only read */
+    if (mprotect(list, 2 * PART, PROT_READ) != 0) return 2;
+    if (convert_list(of, list, n, list_out, to_n) != (int64_t)to_n || memcmp(list_out, editions[!of].list, to_n) != 0) return 3;
+    memset(list_out, 0, to_n);
+    if (convert(of, list, n, plan, m, list_out, to_n, plan_out, to_m, length) != (int64_t)to_n || *length != to_m) return 4;
+    if (memcmp(list_out, editions[!of].list, to_n) != 0 || memcmp(plan_out, editions[!of].plan, to_m) != 0) return 5;
+    /* refused: nothing is written; the list's buffer short, the plan's, both; a row of the list, of the plan */
+    if (mprotect(parts, PARTS, PROT_READ) != 0) return 6;
+    if (convert_list(of, list, n, list_out, to_n - 1) != -20 || convert_list(of, list, n, list_out, 0) != -20) return 7;
+    if (convert(of, list, n, plan, m, list_out, to_n - 1, plan_out, to_m, length) != -20) return 8;
+    if (convert(of, list, n, plan, m, list_out, to_n, plan_out, to_m - 1, length) != -20) return 9;
+    if (convert(of, list, n, plan, m, list_out, 0, plan_out, 0, length) != -20) return 10;
+    if (convert(of, list, n, plan, m - 1, list_out, PART, plan_out, PART, length) != -10) return 11;
+    if (convert(of, list, n, plan_out, to_m, list_out, PART, plan, PART, length) != -7) return 12;
+    if (convert_list(of, list, n - 1, list_out, PART) != -3 || convert_list(!of, list, n, list_out, PART) != -1) return 13;
+    if (*length != to_m) return 14;
+    /* a list that is refused: plan, buffers and length are not even read */
+    if (mprotect(plan, PARTS - PART, PROT_NONE) != 0) return 15;
+    if (convert(of, list, n - 1, plan, m, list_out, PART, plan_out, PART, length) != -3) return 16;
+    if (convert(!of, list, n, plan, m, list_out, PART, plan_out, PART, length) != -1) return 17;
+    if (mprotect(list, PART, PROT_READ | PROT_WRITE) != 0) return 18;
+    list[9] = 1;
+    if (of) list[10] = 1;
+    if (mprotect(list, PART, PROT_READ) != 0) return 19;
+    /* 266 litres in edition 1; 65,802 in edition 2 */
+    if (of && convert_list(of, list, n, list_out, PART) != -21) return 20;
+    if (of && convert(of, list, n, plan, m, list_out, PART, plan_out, PART, length) != -21) return 21;
+    return convert_list(of, list, n, list_out, to_n - 1) == (of ? -21 : -20) ? 0 : 22;
+}
+
 int main(void) {
     for (int of = 0; of < 2; of++) {
         const int failed = edition(of);
         if (failed != 0) return 100 * of + failed;
+        const int unconverted = conversions(of);
+        if (unconverted != 0) return 100 * of + 50 + unconverted;
     }
     return 0;
 }

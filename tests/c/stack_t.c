@@ -1,8 +1,8 @@
-/* Every exported call, at 512 sites, in either edition, on a stack of the bytes that the header states: valid calls, calls that each
- * row refuses, and calls on a damaged desk. Each runs on a thread whose stack is memory of this program, with pages below it that cannot be touched;
- * what the stack has above the stated bytes is passed over before the call, so that a call that needs more faults, and is named.
- * Prints the most that each call was seen to write: its own stack alone where the program is linked with -z now, so that nothing
- * is looked up within a call. */
+/* Every exported call, at 512 sites, in either edition, and in edition 2 also with litres that edition 1 has, on a stack of the bytes that the
+ * header states: valid calls, calls that each row refuses, and calls on a damaged desk. Each runs on a thread whose stack is memory of this program,
+ * with pages below it that cannot be touched; what the stack has above the stated bytes is passed over before the call, so that a call that needs
+ * more faults, and is named. Prints the most that each call was seen to write: its own stack alone where the program is linked with -z now, so that
+ * nothing is looked up within a call. */
 #define _GNU_SOURCE
 #include <alloca.h>
 #include <pthread.h>
@@ -16,10 +16,10 @@
 #include "sulgheti.h"
 
 /* What the calls are given; the buffers stand at odd addresses, since no alignment is asked of them. */
-static uint64_t rooms[5][800];
+static uint64_t rooms[6][800];
 static uint8_t *const store = (uint8_t *)rooms[0] + 1, *const table = (uint8_t *)rooms[1] + 1, *const list = (uint8_t *)rooms[2] + 1;
-static uint8_t *const plan = (uint8_t *)rooms[3] + 1, *const out = (uint8_t *)rooms[4] + 1;
-static size_t store_len, table_len, out_len, list_len, plan_len, site;
+static uint8_t *const plan = (uint8_t *)rooms[3] + 1, *const out = (uint8_t *)rooms[4] + 1, *const plan_out = (uint8_t *)rooms[5] + 1;
+static size_t store_len, table_len, out_len, plan_out_len, written_len, list_len, plan_len, site;
 static uint8_t first, second;
 static uint32_t litres, mark;
 static uint64_t x, y;
@@ -28,6 +28,11 @@ static int64_t d;
 #define DESK store, store_len, table, table_len
 static int64_t check(void) { return sulgheti_check(list, list_len, plan, plan_len); }
 static int64_t make(void) { return sulgheti_make(list, list_len, out, out_len); }
+#define BOTH list, list_len, plan, plan_len, out, out_len, plan_out, plan_out_len, &written_len
+static int64_t upgrade_list(void) { return sulgheti_upgrade_list(list, list_len, out, out_len); }
+static int64_t upgrade_plan(void) { return sulgheti_upgrade_plan(BOTH); }
+static int64_t downgrade_list(void) { return sulgheti_downgrade_list(list, list_len, out, out_len); }
+static int64_t downgrade_plan(void) { return sulgheti_downgrade_plan(BOTH); }
 static int64_t fresh(void) { return sulgheti_fresh(store, store_len); }
 static int64_t load(void) { return sulgheti_load(DESK, list, list_len); }
 static int64_t change(void) { return sulgheti_change(DESK, site, (uint16_t)litres); }
@@ -43,15 +48,20 @@ static int64_t written(void) { return sulgheti_written(DESK, out, out_len); }
 static int64_t at_least(void) { return sulgheti_at_least(DESK, mark, &x); }
 static int64_t list_out(void) { return sulgheti_list(DESK, out, out_len); }
 
-/* Those that serve either edition, and the three of edition 1 and the three of edition 2, in one order. */
-enum { CHECK, MAKE, LOAD, PROPOSE, SHARE, DEPOT, DIFFERENCE, WRITTEN, AT_LEAST, LIST, FRESH, CHANGE, ADD, FRESH2, CHANGE2, ADD2, CALLS };
-enum { EACH = FRESH2 - FRESH };
+/* Those that serve either edition, beside the two that convert from edition 1 and the two from edition 2; then the three of edition 1 and the three
+ * of edition 2. Those of the editions stand in one order. */
+enum { CHECK, MAKE, UPGRADE_LIST, UPGRADE_PLAN, DOWNGRADE_LIST, DOWNGRADE_PLAN, LOAD, PROPOSE, SHARE, DEPOT, DIFFERENCE, WRITTEN, AT_LEAST, LIST,
+       FRESH, CHANGE, ADD, FRESH2, CHANGE2, ADD2, CALLS };
+enum { EACH = FRESH2 - FRESH, WAY = DOWNGRADE_LIST - UPGRADE_LIST };
 static struct {
     const char *name;
     int64_t (*call)(void);
     size_t stated, seen[2];
 } calls[CALLS] = {
-    {"check", check, SULGHETI_STACK_CHECK, {0}}, {"make", make, SULGHETI_STACK_MAKE, {0}}, {"load", load, SULGHETI_STACK_DESK, {0}},
+    {"check", check, SULGHETI_STACK_CHECK, {0}}, {"make", make, SULGHETI_STACK_MAKE, {0}},
+    {"upgrade_list", upgrade_list, SULGHETI_STACK_CONVERT, {0}}, {"upgrade_plan", upgrade_plan, SULGHETI_STACK_CONVERT, {0}},
+    {"downgrade_list", downgrade_list, SULGHETI_STACK_CONVERT, {0}}, {"downgrade_plan", downgrade_plan, SULGHETI_STACK_CONVERT, {0}},
+    {"load", load, SULGHETI_STACK_DESK, {0}},
     {"propose", propose, SULGHETI_STACK_DESK, {0}}, {"share", share, SULGHETI_STACK_QUESTION, {0}}, {"depot", depot, SULGHETI_STACK_QUESTION, {0}},
     {"difference", difference, SULGHETI_STACK_QUESTION, {0}}, {"written", written, SULGHETI_STACK_QUESTION, {0}},
     {"at_least", at_least, SULGHETI_STACK_QUESTION, {0}}, {"list", list_out, SULGHETI_STACK_QUESTION, {0}},
@@ -60,17 +70,20 @@ static struct {
 };
 
 /* The editions: marks of list, site, plan and share, bytes of litres and of s, sizes; the most litres, and litres of 64 figures that fall
- * by a step, eight times the first of which is a mark that can be asked for. */
+ * by a step, eight times the first of which is a mark that can be asked for. The last is edition 2 with litres that edition 1 has, so that its lists
+ * can be downgraded. */
 static const struct edition {
     const char *list, *site, *plan, *share;
     unsigned litres, s;
     size_t store, place, plan_max;
     uint32_t most, top, step, spread;
-} editions[2] = {
+} editions[3] = {
     {"LS", "ST", "PL", "SH", 2, 4, SULGHETI_STORE_BYTES, SULGHETI_PLACE_BYTES, SULGHETI_PLAN_MAX, 65535, 65535, 1000, 7919},
     {"L2", "S2", "P2", "S3", 4, 8, SULGHETI_STORE2_BYTES, SULGHETI_PLACE2_BYTES, SULGHETI_PLAN2_MAX, 4294967295, 536870911, 8000000, 518998849},
+    {"L2", "S2", "P2", "S3", 4, 8, SULGHETI_STORE2_BYTES, SULGHETI_PLACE2_BYTES, SULGHETI_PLAN2_MAX, 65535, 65535, 1000, 7919},
 };
-static int two;
+/* Whether the calls are in edition 2, and whether edition 1 has all litres of the list. */
+static int two, fits;
 static const struct edition *e, *other;
 
 /* Pages that cannot be touched, and above them a stack with room for a stated figure and for what a thread needs itself. */
@@ -120,6 +133,9 @@ static void expect(int call, int64_t got, int64_t wanted, int line) {
 /* The same of fresh, change or add in the store's edition, and in the other. */
 #define EXPECT_OWN(call, wanted) EXPECT((call) + EACH * two, wanted)
 #define EXPECT_OTHER(call, wanted) EXPECT((call) + EACH * (1 - two), wanted)
+/* The same of a conversion, given as an upgrade, that takes the list's edition, and that takes the other. */
+#define EXPECT_AWAY(call, wanted) EXPECT((call) + WAY * two, wanted)
+#define EXPECT_BACK(call, wanted) EXPECT((call) + WAY * (1 - two), wanted)
 
 /* Low byte first. */
 static void put(uint8_t *to, uint64_t value, int width) {
@@ -139,17 +155,24 @@ static void write_list(int kind, unsigned n) {
         put(at + 4, kind == EQUAL ? e->most : kind == FALLING ? e->top - e->step * (i % 64) : kind == RING ? 10 : 1 + (uint64_t)i * e->spread % e->most, (int)e->litres);
     }
     list_len = 4 + (4 + e->litres) * n;
+    fits = kind == RING || e->most == editions[0].most;
 }
 
 static void lists_refused(int row) {
     EXPECT(CHECK, -row);
     EXPECT(MAKE, -row);
     EXPECT(LOAD, -row);
+    EXPECT_AWAY(UPGRADE_LIST, -row);
+    EXPECT_AWAY(UPGRADE_PLAN, -row);
+    EXPECT_BACK(UPGRADE_LIST, -1);
+    EXPECT_BACK(UPGRADE_PLAN, -1);
 }
 
 static void plans_refused(int row) {
     EXPECT(CHECK, -row);
     EXPECT(PROPOSE, -row);
+    EXPECT_AWAY(UPGRADE_PLAN, fits ? -row : -21);
+    EXPECT_BACK(UPGRADE_PLAN, -1);
 }
 
 /* The byte has another value while the calls are refused by the row. */
@@ -189,8 +212,45 @@ static void listed(void) {
     out_len = e->plan_max;
 }
 
-static void edition(void) {
-    e = &editions[two], other = &editions[1 - two];
+/* The list, alone and with its plan, in the other edition, and back; into buffers of which either or both are a byte short. */
+static void converted(void) {
+    const size_t to_list = 4 + (4 + other->litres) * 512, to_plan = 5 + 10u * plan[2] + (2 + other->s) * 512;
+    const size_t back_list = list_len, back_plan = plan_len;
+    out_len = plan_out_len = SULGHETI_PLAN2_MAX;
+    EXPECT_BACK(UPGRADE_LIST, -1);
+    EXPECT_BACK(UPGRADE_PLAN, -1);
+    written_len = 7;
+    for (int less = 1; less < 4; less++) {
+        out_len = to_list - (less & 1), plan_out_len = to_plan - (less >> 1);
+        EXPECT_AWAY(UPGRADE_LIST, !fits ? -21 : less & 1 ? -20 : (int64_t)to_list);
+        EXPECT_AWAY(UPGRADE_PLAN, fits ? -20 : -21);
+        if (written_len != 7) exit(7);
+    }
+    out_len = to_list, plan_out_len = to_plan;
+    EXPECT_AWAY(UPGRADE_LIST, fits ? (int64_t)to_list : -21);
+    EXPECT_AWAY(UPGRADE_PLAN, fits ? (int64_t)to_list : -21);
+    if (fits) {
+        static uint8_t kept[2][SULGHETI_PLAN2_MAX];
+        if (written_len != to_plan) exit(8);
+        memcpy(kept[0], list, list_len);
+        memcpy(kept[1], plan, plan_len);
+        memcpy(list, out, list_len = to_list);
+        memcpy(plan, plan_out, plan_len = to_plan);
+        out_len = back_list, plan_out_len = back_plan;
+        EXPECT(CHECK, 0);
+        EXPECT_BACK(UPGRADE_LIST, (int64_t)back_list);
+        EXPECT_BACK(UPGRADE_PLAN, (int64_t)back_list);
+        if (written_len != back_plan || memcmp(out, kept[0], back_list) != 0 || memcmp(plan_out, kept[1], back_plan) != 0) exit(9);
+        EXPECT_AWAY(UPGRADE_LIST, -1);
+        memcpy(list, kept[0], list_len = back_list);
+        memcpy(plan, kept[1], plan_len = back_plan);
+    }
+    out_len = e->plan_max, plan_out_len = SULGHETI_PLAN2_MAX;
+}
+
+static void edition(const struct edition *of) {
+    e = of, two = of != editions, other = &editions[1 - two];
+    plan_out_len = SULGHETI_PLAN2_MAX;
     store_len = e->store, table_len = 512 * e->place, out_len = e->plan_max;
     const unsigned site_len = 4 + e->litres, share_len = 2 + e->s;
 
@@ -201,6 +261,7 @@ static void edition(void) {
         EXPECT(MAKE, 5 + 10 * out[2] + share_len * 512);
         memcpy(plan, out, plan_len = (size_t)answer);
         EXPECT(CHECK, 0);
+        converted();
         EXPECT_OWN(FRESH, 0);
         EXPECT(LIST, 4);
         EXPECT(LOAD, 0);
@@ -232,6 +293,8 @@ static void edition(void) {
         EXPECT(CHECK, -3);
         EXPECT(MAKE, -3);
         EXPECT(LOAD, -1);
+        EXPECT_AWAY(UPGRADE_PLAN, -1);
+        EXPECT_BACK(UPGRADE_PLAN, -3);
         list[1] = (uint8_t)e->list[1];
         damaged(list + 3, 3, lists_refused, 2);
         list_len--;
@@ -305,7 +368,9 @@ static void edition(void) {
         EXPECT_OWN(ADD, 0);
         EXPECT(LIST, 4 + site_len * 512);
         if (memcmp(out + 4, list + 4, list_len - 4) != 0 || memcmp(out + list_len, e->site, 2) != 0) exit(6);
-        if (memcmp(out + list_len + 2, "\77\0\377\377\377\377", 2 + e->litres) != 0) exit(6);
+        uint8_t added[4];
+        put(added, e->most, (int)e->litres);
+        if (memcmp(out + list_len + 2, "\77\0", 2) != 0 || memcmp(out + list_len + 4, added, e->litres) != 0) exit(6);
     }
 
     /* row 16: depots 0 and the others in two groups, as heavy as each other */
@@ -331,9 +396,11 @@ int main(void) {
     struct sigaction action = {.sa_handler = faulted, .sa_flags = SA_ONSTACK};
     if (sigaction(SIGSEGV, &action, 0) != 0) return 2;
 
-    for (two = 0; two < 2; two++) edition();
+    for (int of = 0; of < 3; of++) edition(&editions[of]);
 
     printf("stack_t: bytes of stack written in edition 1 and in edition 2, of those stated:");
     for (int call = 0; call < CALLS; call++) printf(" %s %zu and %zu of %zu%c", calls[call].name, calls[call].seen[0], calls[call].seen[1], calls[call].stated, call + 1 < CALLS ? ',' : '\n');
+    /* the room that the header promises above what is written */
+    for (int call = 0; call < CALLS; call++) for (int two = 0; two < 2; two++) if (calls[call].stated - calls[call].seen[two] < 8000) return 3;
     return 0;
 }

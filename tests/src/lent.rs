@@ -60,6 +60,28 @@ pub fn make(list: &Lent, out: &mut Lent) -> i64 {
     unsafe { ffi::sulgheti_make(list.at(), list.len, out.at_mut(), out.len) }
 }
 
+/// A list put to the way from an edition: up from edition 1, back from edition 2.
+pub fn convert_list(from: Edition, list: &Lent, out: &mut Lent) -> i64 {
+    let way = if from == ONE { ffi::sulgheti_upgrade_list } else { ffi::sulgheti_downgrade_list };
+    // SAFETY: both are valid for their lengths and do not overlap.
+    unsafe { way(list.at(), list.len, out.at_mut(), out.len) }
+}
+
+/// A list and its plan put to the way from an edition; the plan's length goes to `written`.
+pub fn convert_plan(
+    from: Edition,
+    list: &Lent,
+    plan: &Lent,
+    list_out: &mut Lent,
+    plan_out: &mut Lent,
+    written: &mut usize,
+) -> i64 {
+    let way = if from == ONE { ffi::sulgheti_upgrade_plan } else { ffi::sulgheti_downgrade_plan };
+    let (n, m, list_room, plan_room) = (list.len, plan.len, list_out.len, plan_out.len);
+    // SAFETY: all are valid for their lengths and do not overlap.
+    unsafe { way(list.at(), n, plan.at(), m, list_out.at_mut(), list_room, plan_out.at_mut(), plan_room, written) }
+}
+
 /// A desk's answer, and what stands where its figures go.
 #[derive(Clone, Copy, Debug, PartialEq, Eq)]
 pub struct Reply {

@@ -1,12 +1,14 @@
-//! The engine beside an independent implementation of document 01, and of document 02's requests a to c.
+//! The engine beside an independent implementation of document 01, and of document 02's requests a to d.
 //!
 //! - `records`, `reference`: the records of either edition, the reader and the rows, literally;
 //! - `decompose` over `flow`: the groups by minimum cuts and by a count over all sets, shares by a flow;
 //! - `families`, `known`: lists; `damage`, `near`: what is done to them and to their plans;
 //! - `lent`, `run`: calls with guard bytes, and the comparison;
+//! - `convert`: lists and plans between the editions;
 //! - `book`, `desk`: the plain book, and desk calls beside it.
 
 pub mod book;
+pub mod convert;
 pub mod damage;
 pub mod decompose;
 pub mod desk;

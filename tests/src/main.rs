@@ -3,11 +3,13 @@
 //!     engine-tests [--cases N] [--seed S]
 //!
 //! First what is fixed: document 01's lists and examples, every byte of small inputs changed, all small
-//! networks with all plans, the largest lists, every pair of rows. Then random cases, N in all, and desk calls, a
-//! quarter as many and at least 60,000. Each is done in both editions, or its cases are shared between them.
+//! networks with all plans, the largest lists, every pair of rows. Then random cases, N in all; lists and plans that are
+//! converted, N / 4 at random beside what is fixed; and desk calls, a quarter as many and at least 60,000. Each is done
+//! in both editions, or its cases are shared between them.
 
 use std::time::Instant;
 
+use engine_tests::convert;
 use engine_tests::damage::{reordered, spoil, Base};
 use engine_tests::decompose::shares;
 use engine_tests::desk;
@@ -55,6 +57,7 @@ fn main() {
             random_list(run);
         }
     });
+    part("between editions", &mut run, &mut |run| convert::conversions(run, cases / 4));
     let mut seen = desk::NONE;
     part("desk", &mut run, &mut |run| seen = desk::histories(run, 60_000.max(cases / 4)));
     for (edition, kind, row) in desk::missing(&seen) {
@@ -71,6 +74,13 @@ fn main() {
         println!("edition {}, desk, calls by row (21: success, 22: no store): {}", e.number, by_row(&calls));
         if (0..=16).any(|r| checks[r] == 0) || [0, 1, 2, 3, 4, 5, 6, 20].iter().any(|&r: &usize| makes[r] == 0) {
             run.fail(&format!("edition {}: a row was never answered", e.number), &[]);
+        }
+        for (what, with_plan) in [("list alone", false), ("list and plan", true)] {
+            let rows = run.converted[n][usize::from(with_plan)];
+            println!("from edition {}, {what}, cases by row (0 converts): {}", e.number, by_row(&rows));
+            if let Some(row) = convert::ROWS[n][usize::from(with_plan)].iter().find(|&&r| rows[r] == 0) {
+                run.fail(&format!("from edition {}, {what}: row {row} was never answered", e.number), &[]);
+            }
         }
     }
     println!("{} lists counted over all sets; {} plans judged by the definition", run.counted, run.judged);

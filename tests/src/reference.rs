@@ -1,7 +1,7 @@
 //! Document 01's rows, read and tried literally: each row over all records before the next; in either edition of
 //! document 02.
 
-use crate::records::{number, Edition, Site, ONE, TWO};
+use crate::records::{list_bytes, number, plan_bytes, Edition, Plan, Site, ONE, TWO};
 
 /// A set of depots: whether each is in it.
 pub type Depots = [bool; 64];
@@ -171,11 +171,57 @@ pub fn check(list: &[u8], plan: &[u8]) -> u8 {
     }
 }
 
+/// Document 02's request d: "each way takes one edition only", up edition 1 and back edition 2. The sites of a list of
+/// that edition, or the row.
+fn read_to_convert(from: Edition, list: &[u8]) -> Result<Vec<Site>, u8> {
+    let sites = read_list(from, list)?;
+    // "21, going back, if a site's litres are outside 1 to 65,535; after all rows of the list, before the plan is read"
+    if from == TWO && sites.iter().any(|site| site.litres < 1 || site.litres > 65_535) {
+        return Err(21);
+    }
+    Ok(sites)
+}
+
+/// A list of an edition in the other, "with the same figures in the same order", for so many bytes; or the row.
+pub fn convert_list(from: Edition, list: &[u8], room: usize) -> Result<Vec<u8>, u8> {
+    let list = list_bytes(from.other(), &read_to_convert(from, list)?);
+    // "row 20 comes last"
+    if room < list.len() {
+        return Err(20);
+    }
+    Ok(list)
+}
+
+/// "A plan is converted along with its list": both, for so many bytes each; or the row. "The list is read first by all
+/// its rows, then the plan by rows 7 to 16; row 20 comes last and covers a buffer too short for what is converted, the
+/// list's first."
+pub fn convert_plan(from: Edition, list: &[u8], plan: &[u8], room: [usize; 2]) -> Result<[Vec<u8>; 2], u8> {
+    let sites = read_to_convert(from, list)?;
+    let (groups, shares) = read_plan(from, plan, sites.len())?;
+    match plan_row(&sites, &groups, &shares) {
+        0 => {}
+        row => return Err(row),
+    }
+    let list = list_bytes(from.other(), &sites);
+    let plan = plan_bytes(from.other(), &Plan { groups: sets(&groups), shares });
+    if room[0] < list.len() {
+        return Err(20);
+    }
+    if room[1] < plan.len() {
+        return Err(20);
+    }
+    Ok([list, plan])
+}
+
+/// Groups as numbers, bit n for depot n.
+fn sets(groups: &[Depots]) -> Vec<u64> {
+    groups.iter().map(|g| (0..64).map(|d| u64::from(g[d]) << d).sum()).collect()
+}
+
 /// Whether a plan of the right form is true of the list with the given decomposition: its groups are
 /// those of the definition, its shares keep the rules and are level. Neither row 12, 13 nor 16 is used.
 pub fn is_true(sites: &[Site], decomposition: &[u64], groups: &[Depots], shares: &[u64]) -> bool {
-    let sets: Vec<u64> = groups.iter().map(|g| (0..64).map(|d| u64::from(g[d]) << d).sum()).collect();
-    sets == decomposition
+    sets(groups) == decomposition
         && sites.iter().zip(shares).all(|(site, &s)| !share_refused(groups, site, s))
         && level(sites, groups, shares)
 }

@@ -2,7 +2,7 @@
 
 use crate::decompose::{by_all_sets, by_cuts, shares};
 use crate::lent::{self, Lent};
-use crate::records::{hex, list_bytes, listed, Plan, Site, TWO};
+use crate::records::{hex, list_bytes, listed, Edition, Plan, Site, ONE, TWO};
 use crate::reference::{self, edition_of};
 use crate::rng::Rng;
 
@@ -20,6 +20,8 @@ pub struct Run {
     /// How often each row was the answer, in each edition; place 0 is a plan that passes.
     pub checks: [[usize; 21]; 2],
     pub makes: [[usize; 21]; 2],
+    /// The same of lists converted from each edition, alone and with a plan.
+    pub converted: [[[usize; 22]; 2]; 2],
     /// How often the count over all sets agreed with the minimum cuts.
     pub counted: usize,
     /// How often the rows agreed with the definition: passes just where the plan is true.
@@ -37,6 +39,7 @@ impl Run {
             failed: 0,
             checks: [[0; 21]; 2],
             makes: [[0; 21]; 2],
+            converted: [[[0; 22]; 2]; 2],
             counted: 0,
             judged: 0,
             held: (Vec::new(), Vec::new()),
@@ -127,7 +130,7 @@ impl Run {
     /// Make on a list that reads or not, into `room` bytes. Answers the plan if one was made.
     pub fn make(&mut self, list: &[u8], behind: &[u8], room: usize) -> Option<Vec<u8>> {
         self.cases += 1;
-        let content: Vec<u8> = (0..room).map(|_| self.rng.byte()).collect();
+        let content = self.junk(room);
         let lent_list = Lent::new(&mut self.rng, list, behind);
         let mut out = Lent::new(&mut self.rng, &content, &[]);
         let answer = lent::make(&lent_list, &mut out);
@@ -175,5 +178,162 @@ impl Run {
             self.fail("the wrapper's make differs", &both);
         }
         Some(plan)
+    }
+
+    /// So many bytes of any content.
+    fn junk(&mut self, room: usize) -> Vec<u8> {
+        (0..room).map(|_| self.rng.byte()).collect()
+    }
+
+    /// A list put to the way from an edition, into `room` bytes. Answers the reference's row, 0 where it is converted.
+    pub fn convert_list(&mut self, from: Edition, list: &[u8], behind: &[u8], room: usize) -> u8 {
+        self.cases += 1;
+        let given: [(&str, &[u8]); 1] = [("list", list)];
+        let expected = reference::convert_list(from, list, room);
+        let row = *expected.as_ref().err().unwrap_or(&0);
+        self.converted[from.number - 1][0][usize::from(row)] += 1;
+        let content = self.junk(room);
+        let lent_list = Lent::new(&mut self.rng, list, behind);
+        let mut out = Lent::new(&mut self.rng, &content, &[]);
+        let answer = lent::convert_list(from, &lent_list, &mut out);
+        let wanted = expected.as_ref().map_or_else(|row| -i64::from(*row), |bytes| bytes.len() as i64);
+        let what = format!("a list from edition {} into {room} bytes", from.number);
+        if answer != wanted {
+            self.fail(&format!("{what}: answers {answer}, expected {wanted}"), &given);
+        }
+        if !lent_list.unchanged_from(0) {
+            self.fail(&format!("{what}: the list is written"), &given);
+        }
+        let left = over(&content, expected.as_deref().unwrap_or(&[]));
+        if out.bytes() != left || !out.kept_around() {
+            self.fail(&format!("{what}: leaves another buffer, or writes beside it"), &given);
+        }
+        let mut again = content;
+        if wrapped_list(from, list, &mut again).map_err(|row| row.0)
+            != expected.as_ref().map_or(Err(row), |b| Ok(b.len()))
+            || again != left
+        {
+            self.fail(&format!("{what}: the wrapper differs"), &given);
+        }
+        if let Ok(bytes) = expected {
+            let mut back = vec![0; list.len()];
+            if wrapped_list(from.other(), &bytes, &mut back) != Ok(list.len()) || back != list {
+                self.fail(&format!("{what}: there and back are other bytes"), &given);
+            }
+        }
+        row
+    }
+
+    /// A list and a plan put to the way from an edition, into buffers of so many bytes. Answers the reference's row, 0
+    /// where both are converted.
+    pub fn convert_plan(&mut self, from: Edition, list: &[u8], plan: &[u8], room: [usize; 2]) -> u8 {
+        self.convert_before(from, list, &[], plan, &[], room)
+    }
+
+    /// The same where list and plan are followed in memory by bytes which are not theirs.
+    pub fn convert_before(
+        &mut self,
+        from: Edition,
+        list: &[u8],
+        behind_list: &[u8],
+        plan: &[u8],
+        behind_plan: &[u8],
+        room: [usize; 2],
+    ) -> u8 {
+        self.cases += 1;
+        let given: [(&str, &[u8]); 2] = [("list", list), ("plan", plan)];
+        let expected = reference::convert_plan(from, list, plan, room);
+        let row = *expected.as_ref().err().unwrap_or(&0);
+        self.converted[from.number - 1][1][usize::from(row)] += 1;
+        let content = room.map(|n| self.junk(n));
+        let figures: [usize; 3] = std::array::from_fn(|_| self.rng.word() as usize);
+        let lent_list = Lent::new(&mut self.rng, list, behind_list);
+        let lent_plan = Lent::new(&mut self.rng, plan, behind_plan);
+        let mut list_out = Lent::new(&mut self.rng, &content[0], &[]);
+        let mut plan_out = Lent::new(&mut self.rng, &content[1], &[]);
+        let mut after = figures;
+        let answer = lent::convert_plan(from, &lent_list, &lent_plan, &mut list_out, &mut plan_out, &mut after[1]);
+        let lengths = expected.as_ref().map(|both| (both[0].len(), both[1].len()));
+        let (wanted, written) = lengths.map_or_else(|row| (-i64::from(*row), figures[1]), |(n, m)| (n as i64, m));
+        let what = format!("a plan from edition {} into {} and {} bytes", from.number, room[0], room[1]);
+        if answer != wanted {
+            self.fail(&format!("{what}: answers {answer}, expected {wanted}"), &given);
+        }
+        if after != [figures[0], written, figures[2]] {
+            self.fail(&format!("{what}: the plan's length is {}, expected {written}", after[1]), &given);
+        }
+        if !lent_list.unchanged_from(0) || !lent_plan.unchanged_from(0) {
+            self.fail(&format!("{what}: the list or the plan is written"), &given);
+        }
+        let none = [vec![], vec![]];
+        let wrote = expected.as_ref().unwrap_or(&none);
+        let left = [over(&content[0], &wrote[0]), over(&content[1], &wrote[1])];
+        if list_out.bytes() != left[0] || !list_out.kept_around() {
+            self.fail(&format!("{what}: leaves another buffer of the list, or writes beside it"), &given);
+        }
+        if plan_out.bytes() != left[1] || !plan_out.kept_around() {
+            self.fail(&format!("{what}: leaves another buffer of the plan, or writes beside it"), &given);
+        }
+        let mut again = content;
+        let wrapped = wrapped_plan(from, list, plan, &mut again);
+        if wrapped.map_err(|row| row.0) != lengths.map_err(|row| *row) || again != left {
+            self.fail(&format!("{what}: the wrapper differs"), &given);
+        }
+        self.convert_judged(from, list, plan, &what, expected.as_ref().map_err(|row| *row));
+        row
+    }
+
+    /// What is converted, and what is refused, by Check: a plan goes through just where it passes with a list of the way's
+    /// edition; it passes after; and it comes back as the same bytes.
+    fn convert_judged(&mut self, from: Edition, list: &[u8], plan: &[u8], what: &str, told: Result<&[Vec<u8>; 2], u8>) {
+        let given: [(&str, &[u8]); 2] = [("list", list), ("plan", plan)];
+        let verdict = |list: &[u8], plan: &[u8]| sulgheti::check(list, plan).map_or_else(|row| row.0, |()| 0);
+        let before = verdict(list, plan);
+        let right = match told {
+            _ if edition_of(list) != from => told == Err(1),
+            Ok(_) | Err(20) => before == 0,
+            Err(21) => from == TWO && !(1..=6).contains(&before),
+            Err(row) => before == row,
+        };
+        if !right {
+            self.fail(&format!("{what}: Check answers {before}, which does not go with it"), &given);
+        }
+        let Ok([new_list, new_plan]) = told else { return };
+        if verdict(new_list, new_plan) != 0 || reference::check(new_list, new_plan) != 0 {
+            self.fail(&format!("{what}: the plan does not pass after"), &given);
+        }
+        let mut back = [vec![0; list.len()], vec![0; plan.len()]];
+        let lengths = wrapped_plan(from.other(), new_list, new_plan, &mut back);
+        if lengths != Ok((list.len(), plan.len())) || back[0] != list || back[1] != plan {
+            self.fail(&format!("{what}: there and back are other bytes"), &given);
+        }
+    }
+}
+
+/// A buffer with other bytes at its front.
+fn over(buffer: &[u8], front: &[u8]) -> Vec<u8> {
+    [front, &buffer[front.len()..]].concat()
+}
+
+/// The wrapper's way from an edition, for a list.
+fn wrapped_list(from: Edition, list: &[u8], out: &mut [u8]) -> Result<usize, sulgheti::Row> {
+    if from == ONE {
+        sulgheti::upgrade_list(list, out)
+    } else {
+        sulgheti::downgrade_list(list, out)
+    }
+}
+
+/// The wrapper's way from an edition, for a list and its plan.
+fn wrapped_plan(
+    from: Edition,
+    list: &[u8],
+    plan: &[u8],
+    [list_out, plan_out]: &mut [Vec<u8>; 2],
+) -> Result<(usize, usize), sulgheti::Row> {
+    if from == ONE {
+        sulgheti::upgrade_plan(list, plan, list_out, plan_out)
+    } else {
+        sulgheti::downgrade_plan(list, plan, list_out, plan_out)
     }
 }

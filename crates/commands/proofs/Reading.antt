@@ -1,6 +1,6 @@
 -- Laws of commands, as the functions meet them: a number, a word of bytes, a comment; and the bounds of a command's numbers.
 -- Assumes nothing.
-use Prim.Native.Nat.{ℕ, _+_, _≤_}
+use Prim.Native.Nat.{ℕ, _≤_}
 use mathlib.Core.Path.{_≡_, refl, sym, ap, _∙_}
 use mathlib.Core.Bool.{Bool, true, false, cond}
 use mathlib.Core.List.{List, [], _∷_}
@@ -14,12 +14,10 @@ use Rattle.script.specs.declared.Number.the-variants as number
 use Rattle.script.specs.Hex.{isBytes}
 use Rattle.script.specs.Words.{wordsOf}
 use Rattle.script.specs.Ascii.{is}
-use Rattle.store.specs.declared.Request.{Request}
 use Rattle.store.specs.declared.Request.the-variants as request
-use Rattle.store.specs.Widths.{Named}
-use Rattle.commands.specs.Commands.{ofNumber, ofDepot, ofLitres, reads, oneWord, twoWords, threeWords, callOf, isComment, ofWords, commandOf}
+use Rattle.commands.specs.Commands.{ofNumber, ofDepot, ofLitres, ofSize, reads, oneWord, converts, twoWords, threeWords, fourWords, callOf, isComment, ofWords, commandOf, Within}
 use Rattle.commands.specs.declared.Command.{Command}
-use Rattle.commands.specs.declared.Command.the-variants.{Blank, Bad, Table, Call, Written, Check, Make, ListWritten, Table2}
+use Rattle.commands.specs.declared.Command.the-variants.{Bad, Table, Call, Written, Make, ListWritten, Table2, Convert, ConvertPlan}
 
 -- r is what was read
 module _ {r : Number} where
@@ -37,18 +35,7 @@ pub comment-no : (w : List ℕ) → (length w ≡ 0 → ⊥) → (getD w 0 0 ≡
 comment-no [] h e = absurd (h refl)
 comment-no (b ∷ w) h e = ne-eqb b 35 e
 
--- the numbers of a command are within their bounds, where litres are at most `most`
-abbrev Within : ℕ → Command → Type 0
-Within most Blank = Unit {0}
-Within most Bad = Unit {0}
-Within most (Table n) = n ≤ 600
-Within most (Call request) = Named (most + 1) request
-Within most (Written n) = n ≤ 8192
-Within most Check = Unit {0}
-Within most (Make n) = n ≤ 8192
-Within most (ListWritten n) = n ≤ 8192
-Within most (Table2 n) = n ≤ 600
-
+-- `Within`, of a command that is not computed
 data Fine (most : ℕ) (x : Command) : Type 0 where
   fine : Within most x → Fine most x
 
@@ -89,6 +76,13 @@ within-one most name a =
     (either (is name "propose") (either (isBytes a) (fine tt) bad)
     (within-reads most name a))))
 
+within-converts : (most : ℕ) (name a b : List ℕ) → Fine most (converts name a b)
+unfolding converts
+within-converts most name a b =
+    either (is name "upgrade") (either (isBytes a) (within-number (λ n. Convert false n) _ b (λ n h. fine h)) bad)
+    (either (is name "downgrade") (either (isBytes a) (within-number (λ n. Convert true n) _ b (λ n h. fine h)) bad)
+    bad)
+
 within-two : (most : ℕ) (name a b : List ℕ) → Fine most (twoWords most name a b)
 unfolding twoWords
 within-two most name a b =
@@ -97,7 +91,7 @@ within-two most name a b =
     (either (is name "difference") (within-number (λ d. ofDepot b (λ e. Call (request.Difference d e))) _ a (λ d h. within-number (λ e. Call (request.Difference d e)) _ b (λ e g. fine tt)))
     (either (is name "check") (either (isBytes a) (either (isBytes b) (fine tt) bad) bad)
     (either (is name "make") (either (isBytes a) (within-number (λ n. Make n) _ b (λ n h. fine h)) bad)
-    bad)))
+    (within-converts most name a b))))
 
 within-three : (most : ℕ) (name a b c : List ℕ) → Fine most (threeWords most name a b c)
 unfolding threeWords
@@ -108,12 +102,26 @@ within-three most name a b c =
     (λ s g. within-number (λ w. Call (request.Add f s w)) _ c (λ w k. fine (omega (arith, k))))))
     bad
 
+-- the lengths of two buffers, in either way
+within-lengths : (most : ℕ) (back : Bool) (c d : List ℕ) → Fine most (ofSize c (λ n. ofSize d (λ m. ConvertPlan back n m)))
+within-lengths most back c d =
+    within-number (λ n. ofSize d (λ m. ConvertPlan back n m)) _ c
+    (λ n h. within-number (λ m. ConvertPlan back n m) _ d (λ m g. fine (h, g)))
+
+within-four : (most : ℕ) (name a b c d : List ℕ) → Fine most (fourWords name a b c d)
+unfolding fourWords
+within-four most name a b c d =
+    either (is name "upgrade") (either (isBytes a) (either (isBytes b) (within-lengths most false c d) bad) bad)
+    (either (is name "downgrade") (either (isBytes a) (either (isBytes b) (within-lengths most true c d) bad) bad)
+    bad)
+
 within-call : (most : ℕ) (name : List ℕ) (words : List (List ℕ)) → Fine most (callOf most name words)
 within-call most name [] = bad
 within-call most name (a ∷ []) = within-one most name a
 within-call most name (a ∷ b ∷ []) = within-two most name a b
 within-call most name (a ∷ b ∷ c ∷ []) = within-three most name a b c
-within-call most name (a ∷ b ∷ c ∷ d ∷ more) = bad
+within-call most name (a ∷ b ∷ c ∷ d ∷ []) = within-four most name a b c d
+within-call most name (a ∷ b ∷ c ∷ d ∷ e ∷ more) = bad
 
 within-words : (most : ℕ) (words : List (List ℕ)) → Fine most (ofWords most words)
 within-words most [] = fine tt
@@ -121,26 +129,6 @@ within-words most (name ∷ words) = either (isComment name) (fine tt) (within-c
 
 -- r is the command of the line
 module _ {r : Command} (most : ℕ) (line : List ℕ) (e : r ≡ commandOf most line) where
-  within : {x : Command} → r ≡ x → Fine most x
-  within h = rw (sym e ∙ h) at (within-words most (wordsOf line))
-
-  -- a table has at most 600 places
-  pub table-within : (n : ℕ) → r ≡ Table n → n ≤ 600
-  table-within n h = holds (within h)
-
-  pub table2-within : (n : ℕ) → r ≡ Table2 n → n ≤ 600
-  table2-within n h = holds (within h)
-
-  -- a buffer has at most 8,192 bytes
-  pub written-within : (n : ℕ) → r ≡ Written n → n ≤ 8192
-  written-within n h = holds (within h)
-
-  pub make-within : (n : ℕ) → r ≡ Make n → n ≤ 8192
-  make-within n h = holds (within h)
-
-  pub list-within : (n : ℕ) → r ≡ ListWritten n → n ≤ 8192
-  list-within n h = holds (within h)
-
-  -- the litres of a call are at most `most`
-  pub call-named : (q : Request) → r ≡ Call q → Named (most + 1) q
-  call-named q h = holds (within h)
+  -- its numbers are within their bounds
+  pub within : {x : Command} → r ≡ x → Within most x
+  within h = holds (rw (sym e ∙ h) at (within-words most (wordsOf line)))

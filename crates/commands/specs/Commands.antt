@@ -1,6 +1,6 @@
 -- The commands of a script's lines.
-use Prim.Native.Nat.{ℕ}
-use mathlib.Core.Bool.{Bool, false, cond}
+use Prim.Native.Nat.{ℕ, _+_, _≤_}
+use mathlib.Core.Bool.{Bool, true, false, cond}
 use mathlib.Core.List.{List, [], _∷_}
 use lib.Dec.{eqb}
 use Rattle.script.specs.Hex.{isBytes}
@@ -10,8 +10,9 @@ use Rattle.script.specs.Ascii.{is}
 use Rattle.script.specs.declared.Number.{Number}
 use Rattle.script.specs.declared.Number.the-variants as number
 use Rattle.store.specs.declared.Request.the-variants as request
+use Rattle.store.specs.Widths.{Named}
 use Rattle.commands.specs.declared.Command.{Command}
-use Rattle.commands.specs.declared.Command.the-variants.{Blank, Bad, Table, Call, Written, Check, Make, ListWritten, Table2}
+use Rattle.commands.specs.declared.Command.the-variants.{Blank, Bad, Table, Call, Written, Check, Make, ListWritten, Table2, Convert, ConvertPlan}
 
 -- the command where the word stands for bytes
 abbrev pub ofBytes : List ℕ → Command → Command
@@ -70,6 +71,15 @@ oneWord name a =
     (cond (is name "propose") (ofBytes a (Call request.Propose))
     (reads name a))))
 
+-- a list between editions, and two words behind its name
+unfoldable pub converts : List ℕ → List ℕ → List ℕ → Command
+converts name a b =
+    -- upgrade LIST LEN
+    cond (is name "upgrade") (ofBytes a (ofSize b (λ n. Convert false n)))
+    -- downgrade LIST LEN
+    (cond (is name "downgrade") (ofBytes a (ofSize b (λ n. Convert true n)))
+    Bad)
+
 -- a name and two words behind it
 unfoldable pub twoWords : ℕ → List ℕ → List ℕ → List ℕ → Command
 twoWords most name a b =
@@ -81,7 +91,7 @@ twoWords most name a b =
     (cond (is name "check") (ofBytes a (ofBytes b Check))
     -- make LIST LEN
     (cond (is name "make") (ofBytes a (ofSize b (λ n. Make n)))
-    Bad)))
+    (converts name a b))))
 
 -- a name and three words behind it
 unfoldable pub threeWords : ℕ → List ℕ → List ℕ → List ℕ → List ℕ → Command
@@ -90,13 +100,23 @@ threeWords most name a b c =
     cond (is name "add") (ofDepot a (λ f. ofDepot b (λ s. ofLitres most c (λ w. Call (request.Add f s w)))))
     Bad
 
+-- a name and four words behind it
+unfoldable pub fourWords : List ℕ → List ℕ → List ℕ → List ℕ → List ℕ → Command
+fourWords name a b c d =
+    -- upgrade LIST PLAN LEN LEN: the first length is that of the list's buffer, the second that of the plan's
+    cond (is name "upgrade") (ofBytes a (ofBytes b (ofSize c (λ n. ofSize d (λ m. ConvertPlan false n m)))))
+    -- downgrade LIST PLAN LEN LEN
+    (cond (is name "downgrade") (ofBytes a (ofBytes b (ofSize c (λ n. ofSize d (λ m. ConvertPlan true n m)))))
+    Bad)
+
 -- a word too many or too few is bad
 abbrev pub callOf : ℕ → List ℕ → List (List ℕ) → Command
 callOf most name [] = Bad
 callOf most name (a ∷ []) = oneWord name a
 callOf most name (a ∷ b ∷ []) = twoWords most name a b
 callOf most name (a ∷ b ∷ c ∷ []) = threeWords most name a b c
-callOf most name (a ∷ b ∷ c ∷ d ∷ more) = Bad
+callOf most name (a ∷ b ∷ c ∷ d ∷ []) = fourWords name a b c d
+callOf most name (a ∷ b ∷ c ∷ d ∷ e ∷ more) = Bad
 
 -- does the word begin with `#` (byte 35)?
 abbrev pub isComment : List ℕ → Bool
@@ -111,3 +131,17 @@ ofWords most (name ∷ words) = cond (isComment name) Blank (callOf most name wo
 -- the command of a line, where litres are at most `most`
 abbrev pub commandOf : ℕ → List ℕ → Command
 commandOf most line = ofWords most (wordsOf line)
+
+-- the numbers of a command are within their bounds, as those of every line's command are, where litres are at most `most`
+abbrev pub Within : ℕ → Command → Type 0
+Within most Blank = Unit {0}
+Within most Bad = Unit {0}
+Within most (Table n) = n ≤ 600
+Within most (Call request) = Named (most + 1) request
+Within most (Written n) = n ≤ 8192
+Within most Check = Unit {0}
+Within most (Make n) = n ≤ 8192
+Within most (ListWritten n) = n ≤ 8192
+Within most (Table2 n) = n ≤ 600
+Within most (Convert back n) = n ≤ 8192
+Within most (ConvertPlan back n m) = (n ≤ 8192) × (m ≤ 8192)

@@ -5,11 +5,12 @@ ghost use mathlib.Core.Path.{_≡_};
 ghost use mathlib.Core.List.{_∷_};
 ghost use Rattle.script.specs.Decimal.{numberOf};
 ghost use Rattle.script.specs.Words.{wordsOf};
-ghost use Rattle.commands.specs.Commands.{ofBytes, ofSite, ofDepot, ofLitres, ofThreshold, ofPlaces, ofSize, reads, oneWord, twoWords, threeWords, callOf, commandOf};
-ghost use Rattle.commands.specs.declared.Command.the-variants.{Table, Call, Written, Check, Make, ListWritten, Table2};
+ghost use Rattle.commands.specs.Commands.{ofBytes, ofSite, ofDepot, ofLitres, ofThreshold, ofPlaces, ofSize, reads, oneWord, converts, twoWords, threeWords, fourWords, callOf, commandOf};
+ghost use Rattle.commands.specs.declared.Command.the-variants.{Table, Call, Written, Check, Make, ListWritten, Table2, Convert, ConvertPlan};
 ghost use Rattle.store.specs.declared.Request.the-variants.{Share, Depot, Change, Difference, Add, AtLeast};
 
-// What a line asks for. A `Call` is a call of the desk; `written` and `list`, which take a buffer, have variants of their own. Bytes are not held: they are words of the line.
+// What a line asks for. A `Call` is a call of the desk; `written` and `list`, which take a buffer, have variants of their own.
+// `Convert` is of a list, `ConvertPlan` of a list and its plan: `upgrade`, and `downgrade` where the flag is true. Bytes are not held: they are words of the line.
 pub enum Command {
     Blank,
     Bad,
@@ -20,6 +21,8 @@ pub enum Command {
     Make(usize),
     ListWritten(usize),
     Table2(usize),
+    Convert(bool, usize),
+    ConvertPlan(bool, usize, usize),
 }
 
 // The most places of a table.
@@ -200,6 +203,29 @@ fn make(len: &[u8]) -> Command
     }
 }
 
+// upgrade LIST LEN, or downgrade LIST LEN, where LIST stands for bytes
+fn convert(back: bool, len: &[u8]) -> Command
+    ensures { λ r. ⌜ r ≡ ofSize (now (len .entry)) (λ n. Convert back n) ⌝ }
+{
+    match script::decimal(len, SIZE) {
+        Number::Value(n) => Command::Convert(back, n as usize),
+        Number::Bad => Command::Bad,
+    }
+}
+
+// The list between editions, by its name and two words behind it.
+fn converts(name: &[u8], a: &[u8], b: &[u8]) -> Command
+    ensures { λ r. ⌜ r ≡ converts (now (name .entry)) (now (a .entry)) (now (b .entry)) ⌝ }
+{
+    if check::same(name, b"upgrade") {
+        return given(a, convert(false, b));
+    }
+    if check::same(name, b"downgrade") {
+        return given(a, convert(true, b));
+    }
+    Command::Bad
+}
+
 // The call of a name with two words behind it.
 fn two_words(name: &[u8], a: &[u8], b: &[u8], most: u32) -> Command
     ensures { λ r. ⌜ r ≡ twoWords most (now (name .entry)) (now (a .entry)) (now (b .entry)) ⌝ }
@@ -216,7 +242,7 @@ fn two_words(name: &[u8], a: &[u8], b: &[u8], most: u32) -> Command
     if check::same(name, b"make") {
         return given(a, make(b));
     }
-    Command::Bad
+    converts(name, a, b)
 }
 
 // add FIRST SECOND LITRES
@@ -245,6 +271,48 @@ fn three_words(name: &[u8], a: &[u8], b: &[u8], c: &[u8], most: u32) -> Command
     Command::Bad
 }
 
+// upgrade LIST PLAN LEN LEN, or downgrade LIST PLAN LEN LEN, where LIST and PLAN stand for bytes
+fn convert_plan(back: bool, len: &[u8], other: &[u8]) -> Command
+    ensures { λ r. ⌜ r ≡ ofSize (now (len .entry)) (λ n. ofSize (now (other .entry)) (λ m. ConvertPlan back n m)) ⌝ }
+{
+    let Number::Value(n) = script::decimal(len, SIZE) else {
+        return Command::Bad;
+    };
+    let Number::Value(m) = script::decimal(other, SIZE) else {
+        return Command::Bad;
+    };
+    Command::ConvertPlan(back, n as usize, m as usize)
+}
+
+// The call of a name with four words behind it.
+fn four_words(name: &[u8], a: &[u8], b: &[u8], c: &[u8], d: &[u8]) -> Command
+    ensures { λ r. ⌜ r ≡ fourWords (now (name .entry)) (now (a .entry)) (now (b .entry)) (now (c .entry)) (now (d .entry)) ⌝ }
+{
+    if check::same(name, b"upgrade") {
+        return given(a, given(b, convert_plan(false, c, d)));
+    }
+    if check::same(name, b"downgrade") {
+        return given(a, given(b, convert_plan(true, c, d)));
+    }
+    Command::Bad
+}
+
+// The call of a name, three words, and the words of what stands behind them.
+fn fourth(name: &[u8], a: &[u8], b: &[u8], c: &[u8], text: &[u8], most: u32) -> Command
+    ensures { λ r. ⌜ r ≡ callOf most (now (name .entry)) (now (a .entry) ∷ now (b .entry) ∷ now (c .entry) ∷ wordsOf (now (text .entry))) ⌝ }
+{
+    let d = script::word(text);
+    if d.len() == 0 {
+        return three_words(name, a, b, c, most);
+    }
+    let others = script::rest(text);
+    let e = script::word(others);
+    if e.len() == 0 {
+        return four_words(name, a, b, c, d);
+    }
+    Command::Bad
+}
+
 // The call of a name, two words, and the words of what stands behind them.
 fn third(name: &[u8], a: &[u8], b: &[u8], text: &[u8], most: u32) -> Command
     ensures { λ r. ⌜ r ≡ callOf most (now (name .entry)) (now (a .entry) ∷ now (b .entry) ∷ wordsOf (now (text .entry))) ⌝ }
@@ -253,12 +321,7 @@ fn third(name: &[u8], a: &[u8], b: &[u8], text: &[u8], most: u32) -> Command
     if c.len() == 0 {
         return two_words(name, a, b, most);
     }
-    let others = script::rest(text);
-    let d = script::word(others);
-    if d.len() == 0 {
-        return three_words(name, a, b, c, most);
-    }
-    Command::Bad
+    fourth(name, a, b, c, script::rest(text), most)
 }
 
 // The call of a name, one word, and the words of what stands behind it.

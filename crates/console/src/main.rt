@@ -5,6 +5,14 @@
 //
 // Both take either edition of list; a plan is of the list's edition.
 //
+// Between the editions, with the same figures in the same order. Buffers are as for `make`; nothing is written unless all fits:
+//   upgrade LIST LEN           a list of edition 1 in edition 2: `length` and its length, or `refused` and the row, and then the whole buffer
+//   upgrade LIST PLAN LEN LEN  the same with its plan, the list's buffer first: `lengths` and both lengths, or `refused` and the row, and then both buffers
+//   downgrade LIST LEN, downgrade LIST PLAN LEN LEN
+//                              the other way, of edition 2 in edition 1
+//
+// These four lines, `check` and `make` leave the desk as it is.
+//
 // The desk's calls, over one desk and a table. A refused call answers `refused` and the row:
 //   table N                    a fresh desk of edition 1, and a table of N places, at most 600, all zero; it answers `table` and N
 //   table2 N                   the same of edition 2; it answers `table2` and N. Before the first of these lines the desk is fresh, of edition 1, and has 512 places
@@ -30,6 +38,7 @@ use libc::STDIN_FILENO;
 use libc::STDOUT_FILENO;
 use records::Edition;
 use records::Wrote;
+use records::WroteBoth;
 use records::edition1;
 use records::edition2;
 use store::Answer;
@@ -39,9 +48,11 @@ ghost use mathlib.Core.Path.{_≡_};
 ghost use Prim.Native.Nat.{ℕ, _+_, _*_, _≤_, _^_};
 ghost use lib.IntN.{natAbs};
 ghost use Rattle.io.specs.Counts.{Counts};
-ghost use Rattle.commands.specs.declared.Command.the-variants.{Make};
+ghost use Rattle.commands.specs.Commands.{Within};
 ghost use Rattle.store.specs.Widths.{Named};
 ghost use Rattle.layout.specs.Layout.{storeSize};
+ghost use Rattle.records.specs.Files.{WrittenOf, WrittenBoth};
+ghost use Rattle.converter.specs.Convert.{way, convertList, convertPlan};
 ghost use Rattle.console.specs.Editions.{editionAt};
 
 // The bytes of a store and of its table, of edition 2 if `second` is true and else of edition 1, and how many places the table has: at most 600.
@@ -133,6 +144,13 @@ fn print_wrote(w: Wrote) {
     }
 }
 
+fn print_wrote_both(w: WroteBoth) {
+    match w {
+        WroteBoth::Lengths(n, m) => print_numbers(b"lengths ", n as u64, m as u64),
+        WroteBoth::Refused(row) => print_refused(row),
+    }
+}
+
 fn print_verdict(v: Verdict) {
     match v {
         Verdict::Passes => print(b"passes"),
@@ -144,17 +162,16 @@ fn end_answer() {
     print(b"\n");
 }
 
-// The buffer behind an answer, and the end of the line.
+// A buffer behind an answer.
 fn print_buffer(bytes: &[u8]) {
     if bytes.len() == 0 {
-        print(b" -\n");
+        print(b" -");
         return;
     }
     let mut text = [0u8; 16384];
     let n = script::encode(bytes, &mut text);
     print(b" ");
     print(&text[..n]);
-    end_answer();
 }
 
 // The check of a list and a plan, both in hexadecimal. Here and in the other calls the first 8,192 bytes of a list or of a plan are taken.
@@ -178,6 +195,7 @@ fn run_check(args: &[u8]) {
 fn made_in(list: &[u8], out: &mut [u8]) {
     print_wrote(maker::make(list, out));
     print_buffer(out);
+    end_answer();
 }
 
 // make LIST LEN
@@ -188,6 +206,70 @@ fn run_make(args: &[u8], len: usize)
     let n = script::decode(script::word(args), &mut bytes);
     let mut out = [0xA5u8; 8192];
     made_in(&bytes[..n], &mut out[..len]);
+}
+
+// Converts a list, back if `back` is true and else up.
+fn convert(back: bool, list: &[u8], out: &mut [u8]) -> Wrote
+    ensures { λ r. ⌜ WrittenOf (convertList (way back) (now (list .entry)) (now (out .entry))) (now (out .entry)) r (now (out .exit)) ⌝ }
+{
+    if back {
+        return converter::downgrade_list(list, out);
+    }
+    converter::upgrade_list(list, out)
+}
+
+// Converts a list in a buffer, and prints the answer and the buffer.
+fn converted_in(back: bool, list: &[u8], out: &mut [u8]) {
+    print_wrote(convert(back, list, out));
+    print_buffer(out);
+    end_answer();
+}
+
+// upgrade LIST LEN, downgrade LIST LEN
+fn run_convert(args: &[u8], back: bool, len: usize)
+    requires { ⌜ len ≤ 8192 ⌝ }
+{
+    let mut bytes = [0u8; 8192];
+    let n = script::decode(script::word(args), &mut bytes);
+    let mut out = [0xA5u8; 8192];
+    converted_in(back, &bytes[..n], &mut out[..len]);
+}
+
+// Converts a list and its plan, back if `back` is true and else up.
+fn convert_both(back: bool, list: &[u8], plan: &[u8], out: &mut [u8], other: &mut [u8]) -> WroteBoth
+    ensures { λ r. ⌜ WrittenBoth (convertPlan (way back) (now (list .entry)) (now (plan .entry)) (now (out .entry)) (now (other .entry))) (now (out .entry)) (now (other .entry)) r (now (out .exit)) (now (other .exit)) ⌝ }
+{
+    if back {
+        return converter::downgrade_plan(list, plan, out, other);
+    }
+    converter::upgrade_plan(list, plan, out, other)
+}
+
+// Converts a list and its plan in two buffers, and prints the answer and both buffers.
+fn both_converted_in(back: bool, list: &[u8], plan: &[u8], out: &mut [u8], other: &mut [u8]) {
+    print_wrote_both(convert_both(back, list, plan, out, other));
+    print_buffer(out);
+    print_buffer(other);
+    end_answer();
+}
+
+// upgrade LIST PLAN LEN LEN, downgrade LIST PLAN LEN LEN
+fn run_convert_plan(args: &[u8], back: bool, first: usize, second: usize)
+    requires { ⌜ (first ≤ 8192) × (second ≤ 8192) ⌝ }
+{
+    let mut a = [0u8; 8192];
+    let mut b = [0u8; 8192];
+    let n = script::decode(script::word(args), &mut a);
+    let m = script::decode(script::word(script::rest(args)), &mut b);
+    let mut out = [0xA5u8; 8192];
+    let mut other = [0xA5u8; 8192];
+    both_converted_in(
+        back,
+        &a[..n],
+        &b[..m],
+        &mut out[..first],
+        &mut other[..second],
+    );
 }
 
 // The edition of a desk.
@@ -254,8 +336,9 @@ fn run_table(second: bool, places: usize) -> Desk
 fn end_call(request: Request, buffer: &[u8]) {
     match request {
         Request::Written | Request::ListWritten => print_buffer(buffer),
-        _ => end_answer(),
+        _ => {}
     }
+    end_answer();
 }
 
 // A call of the desk, and its answer: the entry over lent bytes, which the library exports call by call.
@@ -308,12 +391,14 @@ fn run_call(desk: Desk, request: Request, args: &[u8], len: usize) -> Desk
 
 // Carries out a command that leaves the desk as it is.
 fn run_apart(command: Command, line: &[u8])
-    requires { ⌜ ((n : ℕ) → command ≡ Make n → n ≤ 8192) ⌝ }
+    requires { ⌜ ((most : ℕ) × Within most command) ⌝ }
 {
     match command {
         Command::Bad => bad(),
         Command::Check => run_check(script::rest(line)),
         Command::Make(n) => run_make(script::rest(line), n),
+        Command::Convert(back, n) => run_convert(script::rest(line), back, n),
+        Command::ConvertPlan(back, n, m) => run_convert_plan(script::rest(line), back, n, m),
         _ => {}
     }
 }

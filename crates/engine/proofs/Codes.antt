@@ -1,10 +1,10 @@
 -- What a caller reads off a code: no row has the number 0, so 0 says that the plan passes, and a number that is not negative is the length of a
--- plan that is written. Assumes nothing.
+-- plan or list that is written. Assumes nothing.
 use Prim.Native.Nat.{ℕ, zero, suc, _<_}
 use mathlib.Core.Bool.{Bool, true, false, cond, _&&_}
 use mathlib.Core.List.{List, [], _∷_}
 use mathlib.Core.Option.{none}
-use mathlib.Core.Path.{_≡_, refl, sym, subst}
+use mathlib.Core.Path.{_≡_, refl, sym, ap, subst, _∙_}
 use native.Mathlib.Omega.{arith}
 use lib.Dec.{T, leb, ltb, ltb→lt}
 use lib.IntN.{pos}
@@ -15,13 +15,17 @@ use Rattle.density.specs.Rows.{Row, row, firstRow, planRows}
 use Rattle.records.specs.declared.Edition.{Edition}
 use Rattle.records.specs.declared.Wrote.{Wrote}
 use Rattle.records.specs.declared.Wrote.the-variants.{Length, Refused}
+use Rattle.records.specs.declared.WroteBoth.the-variants as both
 use Rattle.records.specs.Values.{Plan}
 use Rattle.records.specs.Outcome.{Outcome, refused, passed, gate, bind}
 use Rattle.records.specs.Format.{listRows, readList, layoutRows, readPlan}
-use Rattle.records.specs.Write.{Written}
-use Rattle.judge.specs.Check.{judged, refusal, checkRow}
+use Rattle.records.specs.Write.{listBytes, Written}
+use Rattle.records.specs.Files.{tooShort, wroteOf, WrittenOf, Files, files, wroteBothOf, WrittenBoth}
+use Rattle.judge.specs.Check.{judgedFor, judged, refusal, checkRow}
 use Rattle.maker.specs.Make.{Made}
-use Rattle.engine.specs.Codes.{checkCode, wroteCode, MadeCode}
+use Rattle.converter.specs.declared.Way.{Way}
+use Rattle.converter.specs.Convert.{outside, listFor, convertList, convertPlan}
+use Rattle.engine.specs.Codes.{checkCode, wroteCode, MadeCode, bothCode, planLengthIn, ListCode, BothCode}
 
 -- no row has the number 0
 abbrev numbered : List Row → Bool
@@ -51,13 +55,14 @@ plan-positive : (e : Edition) (n : ℕ) (s : List ℕ) → Positive (readPlan e 
 unfolding readPlan
 plan-positive e n s = gate-positive (layoutRows e n s) tt _
 
-judged-positive : (e : Edition) (list plan : List ℕ) → Positive (judged e list plan)
+judged-for-positive : (e : Edition) (l : Listing) (plan : List ℕ) → Positive (judgedFor e l plan)
 unfolding planRows
-judged-positive e list plan =
-    bind-positive (readList e 512 list) _ (list-positive e list)
-    (λ (l : Listing).
+judged-for-positive e l plan =
     bind-positive (readPlan e (length (l .sites)) plan) _ (plan-positive e (length (l .sites)) plan)
-    (λ (p : Plan). gate-positive (planRows (network l) (p .groups) (p .shares)) tt p))
+    (λ (p : Plan). gate-positive (planRows (network l) (p .groups) (p .shares)) tt p)
+
+judged-positive : (e : Edition) (list plan : List ℕ) → Positive (judged e list plan)
+judged-positive e list plan = bind-positive (readList e 512 list) _ (list-positive e list) (λ (l : Listing). judged-for-positive e l plan)
 
 zero-passes : (o : Outcome Plan) → Positive o → checkCode (refusal o) ≡ pos 0 → refusal o ≡ none
 zero-passes (refused zero) h k = absurd (omega arith)
@@ -88,3 +93,47 @@ make-writes e list out last n m = by (m .wrote) (m .made) (m .code)
     by (Length k) h c = let z : n ≡ k = cc in subst (λ (x : ℕ). Made e (readList e 512 list) out (Length x) last) (sym z) h
     by (Refused zero) h c = absurd (made-positive e (readList e 512 list) out last (list-positive e list) h)
     by (Refused (suc k)) h c = let z : _≡_ {A = ℕ} 0 1 = cc in absurd (omega arith)
+
+-- ---- the ways between editions
+
+taken-positive : (w : Way) (s : List ℕ) → Positive (listFor w s)
+taken-positive w s = bind-positive (readList (w .from) 512 s) _ (list-positive (w .from) s) (λ (l : Listing). gate-positive (row 21 (w .back && outside l) ∷ []) tt l)
+
+list-way-positive : (w : Way) (s out : List ℕ) → Positive (convertList w s out)
+list-way-positive w s out =
+    bind-positive (listFor w s) _ (taken-positive w s)
+    (λ (l : Listing). gate-positive (tooShort (listBytes (w .to) l) out ∷ []) tt (listBytes (w .to) l))
+
+plan-way-positive : (w : Way) (s plan out other : List ℕ) → Positive (convertPlan w s plan out other)
+plan-way-positive w s plan out other =
+    bind-positive (listFor w s) _ (taken-positive w s)
+    (λ (l : Listing).
+    bind-positive (judgedFor (w .from) l plan) _ (judged-for-positive (w .from) l plan)
+    (λ (p : Plan). both-positive (files (w .to) l p)))
+  where
+    both-positive : (f : Files) → Positive (gate (tooShort (f .list) out ∷ tooShort (f .plan) other ∷ []) f)
+    both-positive f = gate-positive (tooShort (f .list) out ∷ tooShort (f .plan) other ∷ []) tt f
+
+-- a way answers a number that is not negative only where a list of that length is written
+pub list-code-writes : (w : Way) (s out last : List ℕ) (n : ℕ) → ListCode (convertList w s out) out (pos n) last → WrittenOf (convertList w s out) out (Length n) last
+list-code-writes w s out last n m = record { answer = by-code (convertList w s out) (list-way-positive w s out) (m .code); buffer = m .buffer }
+  where
+    by-code : (o : Outcome (List ℕ)) → Positive o → pos n ≡ wroteCode (wroteOf o) → Length n ≡ wroteOf o
+    by-code (refused zero) h c = absurd (omega arith)
+    by-code (refused (suc k)) h c = let z : _≡_ {A = ℕ} 0 1 = cc in absurd (omega arith)
+    by-code (passed bytes) h c = let z : n ≡ length bytes = cc in ap Length z
+
+-- and with a plan only where both are written, the plan's length being in its place
+pub both-code-writes : (w : Way) (s plan out other last rest : List ℕ) (n x x' : ℕ) → BothCode (convertPlan w s plan out other) out other x (pos n) last rest x'
+    → WrittenBoth (convertPlan w s plan out other) out other (both.Lengths n x') last rest
+both-code-writes w s plan out other last rest n x x' m =
+    record {
+      answer = by-code (convertPlan w s plan out other) (plan-way-positive w s plan out other) (m .code) (m .length);
+      list = m .list;
+      plan = m .plan;
+    }
+  where
+    by-code : (o : Outcome Files) → Positive o → pos n ≡ bothCode (wroteBothOf o) → x' ≡ planLengthIn (wroteBothOf o) x → both.Lengths n x' ≡ wroteBothOf o
+    by-code (refused zero) h c l = absurd (omega arith)
+    by-code (refused (suc k)) h c l = let z : _≡_ {A = ℕ} 0 1 = cc in absurd (omega arith)
+    by-code (passed f) h c l = let z : n ≡ length (f .list) = cc in ap (λ (k : ℕ). both.Lengths k x') z ∙ ap (both.Lengths (length (f .list))) l

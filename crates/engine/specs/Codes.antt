@@ -1,4 +1,4 @@
--- Document 01, "Entry points": what the library for Rust and C answers, each as one number.
+-- Document 01, "Entry points", and document 02, d: what the library for Rust and C answers, each as a number, where two are written with the plan's length beside it.
 use Prim.Native.Nat.{ℕ}
 use mathlib.Core.List.{List}
 use mathlib.Core.Option.{Option, none, some}
@@ -8,7 +8,10 @@ use Rattle.density.specs.Network.{Listing}
 use Rattle.records.specs.declared.Edition.{Edition}
 use Rattle.records.specs.declared.Wrote.{Wrote}
 use Rattle.records.specs.declared.Wrote.the-variants.{Length, Refused}
+use Rattle.records.specs.declared.WroteBoth.{WroteBoth}
+use Rattle.records.specs.declared.WroteBoth.the-variants as both
 use Rattle.records.specs.Outcome.{Outcome}
+use Rattle.records.specs.Files.{Files, wroteOf, bufferOf, wroteBothOf, listPart, planPart}
 use Rattle.maker.specs.Make.{Made}
 
 -- "Check: a list and a plan; passes or refuses": 0, or the row's number with a minus sign
@@ -26,3 +29,25 @@ pub record MadeCode (e : Edition) (l : Outcome Listing) (out : List ℕ) (r : �
   pub wrote : Wrote
   pub made : Made e l out wrote last
   pub code : r ≡ wroteCode wrote
+
+-- Document 02, d: a list and a plan converted. "From here on every writer answers the length it wrote, the list's first where it writes two" (b): the list's length, or the row's number with a minus sign
+abbrev pub bothCode : WroteBoth → ℤ
+bothCode (both.Lengths n k) = pos n
+bothCode (both.Refused n) = negℤ (pos n)
+
+-- the plan's length; where a row refuses, what was there
+abbrev pub planLengthIn : WroteBoth → ℕ → ℕ
+planLengthIn (both.Lengths n k) x = k
+planLengthIn (both.Refused n) x = x
+
+-- a list converted, the answer as a number
+pub record ListCode (o : Outcome (List ℕ)) (out : List ℕ) (r : ℤ) (last : List ℕ) : Type 0 where
+  pub code : r ≡ wroteCode (wroteOf o)
+  pub buffer : last ≡ bufferOf o out
+
+-- a list and its plan converted, the answer as a number and the plan's length in its place
+pub record BothCode (o : Outcome Files) (out other : List ℕ) (x : ℕ) (r : ℤ) (last rest : List ℕ) (x' : ℕ) : Type 0 where
+  pub code : r ≡ bothCode (wroteBothOf o)
+  pub length : x' ≡ planLengthIn (wroteBothOf o) x
+  pub list : last ≡ bufferOf (listPart o) out
+  pub plan : rest ≡ bufferOf (planPart o) other

@@ -1,4 +1,6 @@
+pub mod PlanFor
 pub mod Judged
 pub mod Truth
+pub mod Widths
 pub mod Examples
 pub mod Contracts

@@ -1,15 +1,15 @@
 -- Check passes exactly the plans that are true of a list that reads, as bytes, in the list's edition. Assumes nothing.
-use mathlib.Core.Path.{_≡_, refl, sym, _∙_}
+use mathlib.Core.Path.{_≡_, refl, sym, subst, _∙_}
 use mathlib.Core.Logic.{_↔_}
 use mathlib.Core.List.{List}
 use mathlib.Core.Bool.{Bool, true, false, or-true}
-use mathlib.Core.Option.{none, some, Option·none-ne-some}
-use Prim.Native.Nat.{ℕ}
+use mathlib.Core.Option.{Option, none, some, Option·none-ne-some}
+use Prim.Native.Nat.{ℕ, _≤_}
 use native.Mathlib.Omega.{arith}
 use borrow.Author.Tests.{not-true}
-use lib.Dec.{ltb, eqb}
+use lib.Dec.{T, ltb, eqb}
 use lib.ListN.{length}
-use Rattle.density.specs.Network.{Listing, network}
+use Rattle.density.specs.Network.{Listing, network, depotsInRange}
 use Rattle.density.specs.Plan.{Formed}
 use Rattle.density.specs.Rows.{firstRow, planRows}
 use Rattle.density.proofs.Lists.{valid}
@@ -18,50 +18,57 @@ use Rattle.records.specs.declared.Edition.{Edition}
 use Rattle.records.specs.Bytes.{Bytes, field}
 use Rattle.records.specs.Record.{wrongMark}
 use Rattle.records.specs.Values.{Plan}
-use Rattle.records.specs.Outcome.{Outcome, refused, passed, gate, bind}
+use Rattle.records.specs.Outcome.{Outcome, refused, passed, settle, gate, bind}
 use Rattle.records.specs.Format.{edition1, edition2, editionOf, readList, readPlan}
 use Rattle.records.specs.Write.{LaidOut, Marked}
 use Rattle.records.proofs.RoundTrip.{list-few, list-depots, laid-read, read-laid}
 use Rattle.readers.proofs.Editions.{marks}
-use Rattle.judge.specs.Check.{refusal, checkRow, TrueOf}
-use Rattle.judge.proofs.Judged.{refusal-settle}
+use Rattle.judge.specs.Check.{judgedFor, refusal, checkRow, True, TrueOf}
 
 formed : (e : Edition) (l : Listing) (p : Plan) (s : List ℕ) → LaidOut e l p s → Formed (network l) (p .groups) (p .shares)
 unfolding network
 formed e l p s o = record { sets = o .sets; each = o .each }
 
+-- the plans that no row refuses for a list, and those that are true of it
+module _ (e : Edition) (l : Listing) (range : T (depotsInRange l)) (plan : List ℕ) (p : Plan) where
+  pub judged-true : Bytes plan → judgedFor e l plan ≡ passed p → True e l p plan
+  judged-true b h = by-read (readPlan e (length (l .sites)) plan) refl h
+    where
+      by-row : (q : Plan) → readPlan e (length (l .sites)) plan ≡ passed q → (o : Option ℕ) → firstRow (planRows (network l) (q .groups) (q .shares)) ≡ o
+          → settle o q ≡ passed p → True e l p plan
+      by-row q k (some n) z h = let z : _≡_ {A = ℕ} 0 1 = cc in absurd (omega arith)
+      by-row q k none z h =
+          let o = read-laid e l plan b k in
+          let t = no-row (network l) (q .groups) (q .shares) (valid l range) (formed e l q plan o) .0 z in
+          let same : q ≡ p = cc in
+          subst (λ (x : Plan). True e l x plan) same (record { layout = o; groups = t .groups; shares = t .shares })
+
+      by-read : (o : Outcome Plan) → readPlan e (length (l .sites)) plan ≡ o → bind o (λ (q : Plan). gate (planRows (network l) (q .groups) (q .shares)) q) ≡ passed p
+          → True e l p plan
+      by-read (refused n) k h = let z : _≡_ {A = ℕ} 0 1 = cc in absurd (omega arith)
+      by-read (passed q) k h = by-row q k (firstRow (planRows (network l) (q .groups) (q .shares))) refl h
+
+  pub true-judged : Marked e → length (l .sites) ≤ 512 → True e l p plan → judgedFor e l plan ≡ passed p
+  true-judged m few t =
+      let o = t .layout in
+      rw (laid-read e m l few o, no-row (network l) (p .groups) (p .shares) (valid l range) (formed e l p plan o) .1 (record { form = formed e l p plan o; groups = t .groups; shares = t .shares })) refl
+
 module _ (e : Edition) (list plan : List ℕ) where
   passes→ : Bytes plan → checkRow e list plan ≡ none → TrueOf e list plan
   unfolding checkRow
-  passes→ b h = read (readList e 512 list) refl h
+  passes→ b h = by-list (readList e 512 list) refl h
     where
-      judge : (l : Listing) → readList e 512 list ≡ passed l → (o : Outcome Plan) → readPlan e (length (l .sites)) plan ≡ o
-          → refusal (bind o (λ (p : Plan). gate (planRows (network l) (p .groups) (p .shares)) p)) ≡ none → TrueOf e list plan
-      judge l r (refused n) k h = let z : _≡_ {A = ℕ} 0 1 = cc in absurd (omega arith)
-      judge l r (passed p) k h =
-          let o = read-laid e l plan b k in
-          let t =
-          no-row (network l) (p .groups) (p .shares) (valid l (list-depots e 512 list r)) (formed e l p plan o) .0
-          (sym (refusal-settle (firstRow (planRows (network l) (p .groups) (p .shares))) p) ∙ h) in
-          (l, p, r, record { layout = o; groups = t .groups; shares = t .shares })
+      by-plan : (l : Listing) → readList e 512 list ≡ passed l → (o : Outcome Plan) → judgedFor e l plan ≡ o → refusal o ≡ none → TrueOf e list plan
+      by-plan l r (refused n) k h = let z : _≡_ {A = ℕ} 0 1 = cc in absurd (omega arith)
+      by-plan l r (passed p) k h = (l, p, r, judged-true e l (list-depots e 512 list r) plan p b k)
 
-      read : (o : Outcome Listing) → readList e 512 list ≡ o
-          → refusal (bind o (λ (l : Listing). bind (readPlan e (length (l .sites)) plan) (λ (p : Plan). gate (planRows (network l) (p .groups) (p .shares)) p))) ≡ none
-          → TrueOf e list plan
-      read (refused n) r h = let z : _≡_ {A = ℕ} 0 1 = cc in absurd (omega arith)
-      read (passed l) r h = judge l r (readPlan e (length (l .sites)) plan) refl h
+      by-list : (o : Outcome Listing) → readList e 512 list ≡ o → refusal (bind o (λ (l : Listing). judgedFor e l plan)) ≡ none → TrueOf e list plan
+      by-list (refused n) r h = let z : _≡_ {A = ℕ} 0 1 = cc in absurd (omega arith)
+      by-list (passed l) r h = by-plan l r (judgedFor e l plan) refl h
 
   →passes : Marked e → TrueOf e list plan → checkRow e list plan ≡ none
   unfolding checkRow
-  →passes m t =
-      let l = t .0 in
-      let p = t .1 in
-      let r = t .2 in
-      let o = t .3 .layout in
-      let few = list-few e 512 list r .0 in
-      let rows = no-row (network l) (p .groups) (p .shares) (valid l (list-depots e 512 list r)) (formed e l p plan o) .1
-      (record { form = formed e l p plan o; groups = t .3 .groups; shares = t .3 .shares }) in
-      rw (r, laid-read e m l few o) (refusal-settle (firstRow (planRows (network l) (p .groups) (p .shares))) p ∙ rows)
+  →passes m (l, p, r, t) = rw (r, true-judged e l (list-depots e 512 list r) plan p m (list-few e 512 list r .0) t) refl
 
   -- Check passes exactly if the list reads and the bytes are a plan that is true of it
   pub check-true-by : Marked e → Bytes plan → checkRow e list plan ≡ none ↔ TrueOf e list plan

@@ -18,7 +18,6 @@ use store::Request;
 use store_calls::add_row;
 use store_calls::answer;
 use store_calls::change_row;
-use store_calls::proposal;
 use tables::Verdict;
 ghost use mathlib.Core.Path.{_≡_};
 ghost use mathlib.Core.Bool.{true};
@@ -156,7 +155,7 @@ pub fn propose(e: Edition, store: &mut [u8], table: &[u8], input: &[u8]) -> Answ
     if is_corrupt(list, known, &groups, &shares) {
         return Answer::Refused(0);
     }
-    let read = proposal(e, list, input);
+    let read = judge::plan_for(e, list, input);
     let answer = read.answer;
     if let Read::Refused(n) = answer {
         return Answer::Refused(n);

@@ -3,18 +3,16 @@ use mathlib.Core.Path.{_≡_, refl, sym, ap, subst, _∙_}
 use mathlib.Core.Bool.{Bool, true, false, cond}
 use mathlib.Core.List.{List}
 use mathlib.Core.Option.{none}
-use Prim.Native.Nat.{ℕ, _+_, _*_, _<_, _≤_, _^_}
-use native.Mathlib.Nat.{lt-of-le-of-lt, lt-of-lt-of-le, le-refl, mul-le-mul, mul-lt-mul-of-pos-right}
+use Prim.Native.Nat.{ℕ, _+_, _*_, _≤_, _^_}
 use native.Mathlib.Omega.{arith}
-use lib.Dec.{T, leb, lit<, lit≤}
-use lib.ListN.{length, getD, take, drop}
+use lib.Dec.{T, leb}
+use lib.ListN.{length, take, drop}
 use lib.Seq.{take-at}
-use Rattle.density.specs.Network.{Listing, network, noSite, siteAt, depotsInRange}
+use Rattle.density.specs.Network.{Listing, network, noSite, depotsInRange}
 use Rattle.density.specs.Groups.{groupsOf}
-use Rattle.density.specs.Plan.{TruePlan, groupSize, carrier, group, whole, firstShare}
+use Rattle.density.specs.Plan.{TruePlan}
 use Rattle.density.proofs.Lists.{valid}
 use Rattle.density.proofs.Figures.{groups-few}
-use Rattle.density.proofs.Totals.{size-≤}
 use Rattle.density.proofs.Checks.{no-row}
 use Rattle.records.specs.declared.Edition.{Edition}
 use Rattle.records.specs.declared.ListArray.{ListArray}
@@ -36,19 +34,9 @@ use Rattle.records.proofs.Answers.{list-counted, list-refused, listing-array}
 use Rattle.records.proofs.RoundTrip.{list-good, list-depots, list-few, laid-plan, laid-read}
 use Rattle.readers.proofs.Editions.{marks}
 use Rattle.judge.specs.Check.{checkRow}
+use Rattle.judge.proofs.Widths.{share-fits}
 use Rattle.maker.specs.Planned.{Planned}
 use Rattle.maker.specs.Make.{PlanWritten, Made, planLength}
-
--- the shares of a true plan have the edition's width, where w × q has: w has the width of litres, and q is at most 576, which depots of up to nine crews have
-share-fits : (e : Edition) (l : Listing) (gs ss : List ℕ) → 256 ^ e .litres * 576 ≤ 256 ^ e .share
-    → ((i : ℕ) → i < length (l .sites) → siteAt l i .litres < 256 ^ e .litres) → TruePlan (network l) gs ss
-    → (i : ℕ) → i < length ss → getD ss i 0 < 256 ^ e .share
-unfolding network firstShare whole groupSize
-share-fits e l gs ss wide small t i k =
-    let j : i < length (l .sites) = subst (λ n. i < n) (t .form .each) k in
-    let q = groupSize (network l) gs (carrier gs (siteAt l i)) in
-    let few : q ≤ 576 = size-≤ (network l) (group gs (carrier gs (siteAt l i))) 9 (λ d. lit≤ tt) in
-    lt-of-lt-of-le (lt-of-le-of-lt (t .shares .rules i j .bound) (lt-of-le-of-lt (mul-le-mul (le-refl (siteAt l i .litres)) few) (mul-lt-mul-of-pos-right (small i j) (lit< tt)))) wide
 
 -- the plan made of a list that was read, written
 made-from : (e : Edition) (s : List ℕ) {l : Listing} (p : PlanArray) {n : ℕ} (out last : List ℕ) (r : Wrote)

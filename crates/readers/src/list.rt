@@ -98,7 +98,7 @@ pub fn sites(e: Edition, n: usize, s: &[u8]) -> SitesRead
 }
 
 // A list that row `n` refuses.
-fn no_list(n: u8) -> ListRead
+pub fn no_list(n: u8) -> ListRead
     ensures { λ r. ⌜ r ≡ listRead (refused n) ⌝ }
 {
     let none = no_site();

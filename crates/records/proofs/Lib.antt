@@ -4,5 +4,6 @@ pub mod Outcomes
 pub mod Buffers
 pub mod Codec
 pub mod RoundTrip
+pub mod Files
 pub mod Samples
 pub mod Answers

@@ -5,4 +5,5 @@ pub mod Outcome
 pub mod Format
 pub mod Answer
 pub mod Write
+pub mod Files
 pub mod Samples

@@ -112,6 +112,12 @@ pub enum Wrote {
     Refused(u8),
 }
 
+// What a writer of a list and of a plan answers: the lengths written, the list's first, or the row that refuses.
+pub enum WroteBoth {
+    Lengths(usize, usize),
+    Refused(u8),
+}
+
 // What the records of a list say: the sites, and whether a mark is wrong, a depot is above 63, or litres are 0.
 pub struct SitesRead {
     pub sites: [Site; 512],

@@ -15,7 +15,6 @@ use store::decide::without_plan;
 use store_calls::add_row;
 use store_calls::answer;
 use store_calls::change_row;
-use store_calls::proposal;
 use table::capacity;
 use tables::Verdict;
 ghost use mathlib.Core.Path.{_≡_};
@@ -130,7 +129,7 @@ fn propose(e: Edition, store: Store, sites: [Site; 512], places: usize, input: &
     }
     let count = store.count;
     let list = ListArray { count, sites };
-    let read = proposal(e, list, input);
+    let read = judge::plan_for(e, list, input);
     let answer = read.answer;
     if let Read::Refused(n) = answer {
         return refuse(store, sites, n);

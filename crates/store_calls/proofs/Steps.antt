@@ -3,7 +3,7 @@ use mathlib.Core.Path.{_≡_, refl, sym, ap, ap₂, _∙_}
 use mathlib.Core.Logic.{_⊎_, inl, inr, ⊎-elim}
 use mathlib.Core.Bool.{false}
 use mathlib.Core.List.{List}
-use mathlib.Core.Option.{Option, none, some}
+use mathlib.Core.Option.{Option, none}
 use Prim.Native.Nat.{ℕ, _+_, _≤_, _<_}
 use native.Mathlib.Nat.{lt-of-not-le}
 use native.Mathlib.Omega.{arith}
@@ -21,6 +21,7 @@ use Rattle.records.proofs.Records.{length-records}
 use Rattle.records.proofs.Outcomes.{Clear, clear, or-false}
 use Rattle.tables.specs.declared.Verdict.the-variants.{Passes, Refused}
 use Rattle.tables.specs.Verdict.{verdict}
+use Rattle.tables.proofs.Verdicts.{verdict-refused, verdict-passes}
 use Rattle.judge.specs.Check.{judgedFor}
 use Rattle.held_state.specs.Held.{State, listOf, corrupt}
 use Rattle.held_state.proofs.Intact.{intact→, sized}
@@ -30,16 +31,6 @@ use Rattle.store.specs.Model.{rowsOf, withLitres}
 use Rattle.store.specs.State.{modelOf, planRow, firstOf, bare, holding, next, step, RefusedBy}
 use Rattle.store.proofs.Plans.{settle-refused, settle-passed}
 use Rattle.store.proofs.Settled.{refused-step, granted-to, row-is}
-
--- ---- verdicts
-
-pub verdict-refused : (o : Option ℕ) (n : ℕ) → verdict o ≡ Refused n → o ≡ some n
-verdict-refused none n h = absurd (let z : _≡_ {A = ℕ} 0 1 = cc in omega arith)
-verdict-refused (some m) n h = cc
-
-pub verdict-passes : (o : Option ℕ) → verdict o ≡ Passes → o ≡ none
-verdict-passes none h = refl
-verdict-passes (some m) h = absurd (let z : _≡_ {A = ℕ} 0 1 = cc in omega arith)
 
 below : (m n : ℕ) → leb m n ≡ false → n < m
 below m n h = lt-of-not-le (λ l. fails (leb m n) h (le→leb m n l))

@@ -1,15 +1,12 @@
-// What each call decides, on values: the rows of a change, an added site and a proposal, and the answers to calls that only read.
+// What each call decides, on values: the rows of a change and of an added site, and the answers to calls that only read.
 use density::Site;
 use held_state::Summary;
 use held_state::at_least;
 use held_state::difference_of;
 use held_state::examine;
 use held_state::figures_of;
-use readers::plan::no_plan;
 use records::Edition;
 use records::ListArray;
-use records::PlanRead;
-use records::Read;
 use records::Wrote;
 use records::scan;
 use store::Answer;
@@ -20,18 +17,14 @@ ghost use mathlib.Core.Path.{_≡_};
 ghost use mathlib.Core.Bool.{cond, not, _||_};
 ghost use mathlib.Core.List.{List};
 ghost use Prim.Native.Nat.{ℕ, _*_, _≤_};
-ghost use lib.Dec.{T, leb};
+ghost use lib.Dec.{leb};
 ghost use lib.ListN.{length, getD};
-ghost use Rattle.density.specs.Network.{depotsInRange};
 ghost use Rattle.density.specs.Rows.{firstRow};
 ghost use Rattle.density.specs.Figures.{differenceOf};
 ghost use Rattle.records.specs.declared.ListArray.{ListArray};
 ghost use Rattle.records.specs.declared.PlanArray.{PlanArray};
-ghost use Rattle.records.specs.Answer.{planRead};
-ghost use Rattle.records.specs.Values.{listing};
 ghost use Rattle.tables.specs.Verdict.{verdict};
 ghost use Rattle.tables.specs.Tables.{net, Kept};
-ghost use Rattle.judge.specs.Check.{judgedFor};
 ghost use Rattle.held_state.specs.Held.{State};
 ghost use Rattle.held_state.specs.Values.{BadKnown, Stands, heldLitres, heldSize};
 ghost use Rattle.store.specs.declared.Answer.the-variants as answer;
@@ -70,24 +63,6 @@ pub fn add_row(count: usize, places: usize, x: Site) -> Verdict
         return Verdict::Refused(6);
     }
     Verdict::Passes
-}
-
-// A plan proposed for a list: the plan, or the row that refuses it.
-pub fn proposal(e: Edition, list: ListArray, input: &[u8]) -> PlanRead
-    requires { ⌜ (e .share ≤ 8) × (list .count ≤ 512) × T (depotsInRange (listing list)) ⌝ }
-    ensures { λ r. ⌜ r ≡ planRead (judgedFor e (listing list) (now (input .entry))) ⌝ }
-{
-    let read = readers::plan::read(e, list.count, input);
-    let answer = read.answer;
-    if let Read::Refused(n) = answer {
-        return no_plan(n);
-    }
-    let plan = read.plan;
-    let verdict = verify::plan_row(list, plan);
-    if let Verdict::Refused(n) = verdict {
-        return no_plan(n);
-    }
-    PlanRead { answer, plan }
 }
 
 // A depot's W and q.

@@ -27,6 +27,15 @@ use Rattle.tables.proofs.Groups.{unlisted-is, listed-is}
 use Rattle.tables.proofs.Shares.{sizes-few}
 use Rattle.tables.proofs.Totals.{parts, parts-load}
 
+-- what a verdict says of the row
+pub verdict-refused : (o : Option ℕ) (n : ℕ) → verdict o ≡ Refused n → o ≡ some n
+verdict-refused none n h = absurd (let z : _≡_ {A = ℕ} 0 1 = cc in omega arith)
+verdict-refused (some m) n h = cc
+
+pub verdict-passes : (o : Option ℕ) → verdict o ≡ Passes → o ≡ none
+verdict-passes none h = refl
+verdict-passes (some m) h = absurd (let z : _≡_ {A = ℕ} 0 1 = cc in omega arith)
+
 never : (n : ℕ) → Refused n ≡ Passes → ⊥
 never n e = let z : _≡_ {A = ℕ} 0 1 = cc in omega arith
 

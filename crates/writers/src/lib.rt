@@ -4,6 +4,7 @@ use records::Edition;
 use records::ListArray;
 use records::PlanArray;
 use records::Wrote;
+use records::WroteBoth;
 use records::number;
 ghost use mathlib.Core.Path.{_≡_};
 ghost use mathlib.Core.List.{_++_, flatMap};
@@ -13,6 +14,7 @@ ghost use Rattle.records.specs.Bytes.{le};
 ghost use Rattle.records.specs.Values.{listing, planIn};
 ghost use Rattle.records.specs.Write.{place, onto, markBytes, siteBytes, listBytes, planBytes, Written};
 ghost use Rattle.records.specs.Format.{siteSize};
+ghost use Rattle.records.specs.Files.{files, fittedBoth, WrittenBoth};
 
 // Puts the two, four, six or eight low bytes of `x` at a place of `out`, without a loop.
 fn put_two(out: &mut [u8], at: usize, x: u64)
@@ -177,4 +179,23 @@ pub fn list(e: Edition, l: ListArray, out: &mut [u8]) -> Wrote
 {
     let table = l.sites;
     list_of(e, table, l.count, out)
+}
+
+// Writes a list at the front of `out` and a plan for it at the front of `other`; nothing where either is too short. The list's buffer is looked at first.
+pub fn both(e: Edition, l: ListArray, p: PlanArray, out: &mut [u8], other: &mut [u8]) -> WroteBoth
+    requires { ⌜ (e .litres ≤ 8) × (e .share ≤ 8) × (l .count ≤ 512) × (p .count ≤ 64) ⌝ }
+    ensures { λ r. ⌜ WrittenBoth (fittedBoth (files e (listing l) (planIn p (l .count))) (now (out .entry)) (now (other .entry))) (now (out .entry)) (now (other .entry)) r (now (out .exit)) (now (other .exit)) ⌝ }
+{
+    let n = l.count;
+    let first = 4 + (4 + e.litres) * n;
+    let second = 5 + 10 * p.count + (2 + e.share) * n;
+    if out.len() < first {
+        return WroteBoth::Refused(20);
+    }
+    if other.len() < second {
+        return WroteBoth::Refused(20);
+    }
+    list(e, l, out);
+    plan(e, p, n, other);
+    WroteBoth::Lengths(first, second)
 }

@@ -1,24 +1,14 @@
 -- `commands::third` meets its contract.
 -- Assumes nothing.
 use borrow.Author.Needs.{needs}
-use mathlib.Core.Path.{_≡_, refl}
-use mathlib.Core.List.{_∷_}
 use denote.Ref.{now}
-use Rattle.script.specs.Words.{wordsOf, restOf}
 use Rattle.script.proofs.Words.{words-none, words-some}
 use Rattle.commands.proofs.third.Statement.{statement}
 use Rattle.commands.proofs.third.Tie as tie
 
--- the start, from where the third word has been read
+-- the start, from where the word has been read
 abbrev start : tie.After-word → tie.Start
 start read = let known = read .before .before .before in known .before .before
-
--- the words of the text, the third read and the others cut off
-words-cut : (cut : tie.After-rest) → let read = cut .before .before in wordsOf (now (start read .args .text)) ≡ now (read .word .result) ∷ wordsOf (now (cut .rest .result))
-words-cut cut =
-    let other = cut .before in
-    let read = other .before in
-    words-some (now (start read .args .text)) (now (read .word .result)) (read .word .ensures) (now (cut .rest .result)) (cut .rest .ensures) (other .if1 .left)
 
 word-requires : tie.Need-word-requires
 word-requires c κs = search needs
@@ -34,33 +24,17 @@ returns c =
 rest-requires : tie.Need-rest-requires
 rest-requires c κs = search needs
 
-word-requires-2 : tie.Need-word-requires-2
-word-requires-2 c κs = search needs
-
-three-words-requires : tie.Need-three-words-requires
-three-words-requires c κs = search needs
+fourth-requires : tie.Need-fourth-requires
+fourth-requires c κs = search needs
 
 returns-2 : tie.Need-returns-2
 returns-2 c =
-    let last = c .before .before in
-    let cut = last .before in
-    rw (words-cut cut, words-none (now (cut .rest .result)) (now (last .word2 .result)) (last .word2 .ensures) (c .before .if2 .taken)) (c .three-words .ensures)
-
-returns-3 : tie.Need-returns-3
-returns-3 c =
-    let last = c .before in
-    let cut = last .before in
-    rw (words-cut cut, words-some (now (cut .rest .result)) (now (last .word2 .result)) (last .word2 .ensures) (restOf (now (cut .rest .result))) refl (c .if2 .left)) refl
+    let cut = c .before in
+    let other = cut .before in
+    let read = other .before in
+    rw (words-some (now (start read .args .text)) (now (read .word .result)) (read .word .ensures) (now (cut .rest .result)) (cut .rest .ensures) (other .if1 .left)) (c .fourth .ensures)
 
 pub third-spec : {M : Type 1} → statement M
 third-spec =
     tie.close
-    (tie.spec
-    word-requires
-    two-words-requires
-    returns
-    rest-requires
-    word-requires-2
-    three-words-requires
-    returns-2
-    returns-3)
+    (tie.spec word-requires two-words-requires returns rest-requires fourth-requires returns-2)

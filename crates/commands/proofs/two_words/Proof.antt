@@ -89,14 +89,19 @@ returns-4 c =
     (same-no (first .before .same .ensures) (first .if1 .left), same-no (second .before .same2 .ensures) (second .if2 .left), same-no (third .before .same3 .ensures) (third .if3 .left), same-yes (at .same4 .ensures) (named .if4 .taken))
     (c .given3 .ensures ∙ ap (ofBytes (now (start first .args .a))) (c .before .make .ensures))
 
+converts-requires : tie.Need-converts-requires
+converts-requires c κs = search needs
+
 returns-5 : tie.Need-returns-5
 unfolding twoWords
 returns-5 c =
-    let third = c .before .before .before in
+    let fourth = c .before in
+    let third = fourth .before .before .before in
     let second = third .before .before .before in
     let first = second .before .before .before in
     simp
-    (same-no (first .before .same .ensures) (first .if1 .left), same-no (second .before .same2 .ensures) (second .if2 .left), same-no (third .before .same3 .ensures) (third .if3 .left), same-no (c .before .same4 .ensures) (c .if4 .left))
+    (same-no (first .before .same .ensures) (first .if1 .left), same-no (second .before .same2 .ensures) (second .if2 .left), same-no (third .before .same3 .ensures) (third .if3 .left), same-no (fourth .before .same4 .ensures) (fourth .if4 .left))
+    (c .converts .ensures)
 
 pub two-words-spec : {M : Type 1} → statement M
 two-words-spec =
@@ -120,4 +125,5 @@ two-words-spec =
     make-requires
     given-requires-3
     returns-4
+    converts-requires
     returns-5)

@@ -1,12 +1,12 @@
 -- `console::run_line` is safe and ends: the numbers of a command are within their bounds.
 -- Assumes nothing.
-use mathlib.Core.Path.{subst}
+use mathlib.Core.Path.{refl, subst}
 use mathlib.Core.List.{List}
 use Prim.Native.Nat.{ℕ}
 use lib.Dec.{lit≤}
 use denote.Ref.{now}
 use Rattle.store.specs.Widths.{Named}
-use Rattle.commands.proofs.Reading.{table-within, table2-within, written-within, make-within, list-within, call-named}
+use Rattle.commands.proofs.Reading.{within}
 use borrow.Author.Needs.{needs}
 use Rattle.console.proofs.run_line.Statement.{statement}
 use Rattle.console.proofs.run_line.Tie as tie
@@ -28,7 +28,7 @@ run-table-requires : tie.Need-run-table-requires
 run-table-requires c κs =
     let known = c .before in
     let parsed = known .before .before in
-    table-within _ (line parsed) (parsed .parse .ensures) (known .command .given .0 .0) (known .command .given .1)
+    within _ (line parsed) (parsed .parse .ensures) (known .command .given .1)
 
 enum-known-command-2 : tie.Need-enum-known-command-2
 enum-known-command-2 c = search needs
@@ -41,7 +41,7 @@ run-call-requires c κs =
     let known = c .before .before in
     let parsed = known .before .before in
     let q = known .command2 .given .0 .0 in
-    let named = call-named _ (line parsed) (parsed .parse .ensures) q (known .command2 .given .1) in
+    let named = within _ (line parsed) (parsed .parse .ensures) (known .command2 .given .1) in
     (lit≤ tt, subst (λ (b : ℕ). Named b q) (parsed .before .most-litres .ensures) named)
 
 enum-known-command-3 : tie.Need-enum-known-command-3
@@ -54,7 +54,7 @@ run-call-requires-2 : tie.Need-run-call-requires-2
 run-call-requires-2 c κs =
     let known = c .before .before in
     let parsed = known .before .before in
-    (written-within _ (line parsed) (parsed .parse .ensures) (known .command3 .given .0 .0) (known .command3 .given .1), tt)
+    (within _ (line parsed) (parsed .parse .ensures) (known .command3 .given .1), tt)
 
 enum-known-command-4 : tie.Need-enum-known-command-4
 enum-known-command-4 c = search needs
@@ -66,7 +66,7 @@ run-call-requires-3 : tie.Need-run-call-requires-3
 run-call-requires-3 c κs =
     let known = c .before .before in
     let parsed = known .before .before in
-    (list-within _ (line parsed) (parsed .parse .ensures) (known .command4 .given .0 .0) (known .command4 .given .1), tt)
+    (within _ (line parsed) (parsed .parse .ensures) (known .command4 .given .1), tt)
 
 enum-known-command-5 : tie.Need-enum-known-command-5
 enum-known-command-5 c = search needs
@@ -75,12 +75,12 @@ run-table-requires-2 : tie.Need-run-table-requires-2
 run-table-requires-2 c κs =
     let known = c .before in
     let parsed = known .before .before in
-    table2-within _ (line parsed) (parsed .parse .ensures) (known .command5 .given .0 .0) (known .command5 .given .1)
+    within _ (line parsed) (parsed .parse .ensures) (known .command5 .given .1)
 
 run-apart-requires : tie.Need-run-apart-requires
 run-apart-requires c κs =
     let parsed = c .before in
-    λ n h. make-within _ (line parsed) (parsed .parse .ensures) n h
+    (_, within _ (line parsed) (parsed .parse .ensures) refl)
 
 returns : tie.Need-returns
 returns c = search needs

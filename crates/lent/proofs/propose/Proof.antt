@@ -92,8 +92,8 @@ returns c = λ buffer.
     keeps (a .e) (now (a .store)) (now (a .table)) (asked k buffer) (λ i. f .shared-slice-known2 .given i .fits) refl
     (zero-step (state k) (asked k buffer) refl (sym (c .before .is-corrupt .ensures (state k) (standing k)) ∙ c .if1 .taken))
 
-proposal-requires : tie.Need-proposal-requires
-proposal-requires c κs =
+plan-for-requires : tie.Need-plan-for-requires
+plan-for-requires c κs =
     let k = summed (c .before) in (
       start k .pre .0 .1,
       stands-few (standing k) (sound c),
@@ -114,7 +114,7 @@ returns-2 c = λ buffer.
     let a = start k .args in
     let z = sound (r .before) in
     keeps (a .e) (now (a .store)) (now (a .table)) (asked k buffer) (λ i. f .shared-slice-known2 .given i .fits) refl
-    (proposal-keeps (a .e) (now (a .store)) (now (a .table)) (asked k buffer) refl z (stands-list (standing k) z) (r .proposal .ensures) (c .before .answer .given .1))
+    (proposal-keeps (a .e) (now (a .store)) (now (a .table)) (asked k buffer) refl z (stands-list (standing k) z) (r .plan-for .ensures) (c .before .answer .given .1))
 
 enum-told : tie.Need-enum-told
 enum-told c = search needs
@@ -124,13 +124,13 @@ holds : (c : tie.After-enum-told) (buffer : List ℕ)
     → let r = c .before .before in
     let k = summed (r .before .before) in
     let a = start k .args in
-    Holds (a .e) (now (a .store)) (now (a .table)) (asked k buffer) (read k .store-in .result .count) (r .proposal .result .plan)
+    Holds (a .e) (now (a .store)) (now (a .table)) (asked k buffer) (read k .store-in .result .count) (r .plan-for .result .plan)
 holds c buffer =
     let r = c .before .before in
     let k = summed (r .before .before) in
     let a = start k .args in
     let z = sound (r .before) in
-    proposal-holds (a .e) (now (a .store)) (now (a .table)) (asked k buffer) refl z (stands-list (standing k) z) (r .proposal .ensures)
+    proposal-holds (a .e) (now (a .store)) (now (a .table)) (asked k buffer) refl z (stands-list (standing k) z) (r .plan-for .ensures)
     (read k .store-in .ensures .count) (c .enum-told .given .1)
 
 slice-aggregate-put-plan : tie.Need-slice-aggregate-put-plan
@@ -173,7 +173,7 @@ propose-spec =
     is-corrupt-requires
     same-length
     returns
-    proposal-requires
+    plan-for-requires
     enum-known-answer
     same-length-2
     returns-2

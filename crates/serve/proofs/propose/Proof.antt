@@ -24,8 +24,8 @@ returns c = λ buffer.
     let s = z .before .before .before in
     zero-served (s .args .store) (s .args .sites) (s .args .places) (s .args .e) (s .args .input .now) buffer _ _ refl (subst (Zero (s .args .store) (s .args .sites) (s .args .places)) (z .if1 .taken) (z .before .row-zero .ensures)) (c .refuse .ensures)
 
-proposal-requires : tie.Need-proposal-requires
-proposal-requires c κs = let z = c in
+plan-for-requires : tie.Need-plan-for-requires
+plan-for-requires c κs = let z = c in
     let s = z .before .before .before in
     let wide : length (s .args .sites) ≡ 512 = search needs in
     let zero = subst (Zero (s .args .store) (s .args .sites) (s .args .places)) (z .if1 .left) (z .before .row-zero .ensures) in
@@ -46,7 +46,7 @@ returns-2 c = λ buffer.
     let zero = subst (Zero (s .args .store) (s .args .sites) (s .args .places)) (z .if1 .left) (z .before .row-zero .ensures) in
     let o = judgedFor (s .args .e) (listing (list (s .args .store) (s .args .sites) (s .args .places))) (s .args .input .now) in
     propose-refused (s .args .store) (s .args .sites) (s .args .places) (s .args .e) (s .args .input .now) buffer _ wide zero _
-    (plan-refused o (sym (v .answer .given .1) ∙ ap (λ (x : PlanRead). x .answer) (v .before .before .proposal .ensures))) (c .refuse2 .ensures)
+    (plan-refused o (sym (v .answer .given .1) ∙ ap (λ (x : PlanRead). x .answer) (v .before .before .plan-for .ensures))) (c .refuse2 .ensures)
 
 enum-told : tie.Need-enum-told
 enum-told c = search needs
@@ -62,7 +62,7 @@ returns-3 c = λ buffer.
     let wide : length (s .args .sites) ≡ 512 = search needs in
     let zero = subst (Zero (s .args .store) (s .args .sites) (s .args .places)) (z .if1 .left) (z .before .row-zero .ensures) in
     let o = judgedFor (s .args .e) (listing (list (s .args .store) (s .args .sites) (s .args .places))) (s .args .input .now) in
-    let read = v .before .before .proposal .ensures in
+    let read = v .before .before .plan-for .ensures in
     let l = plan-counted o (sym (v .enum-told .given .1) ∙ ap (λ (x : PlanRead). x .answer) read) in
     propose-passed (s .args .store) (s .args .sites) (s .args .places) (s .args .e) (s .args .input .now) buffer _ wide zero (l .0) (l .1)
     (c .with-plan .ensures ∙ ap (λ (x : PlanArray). takes (s .args .store) x (s .args .sites)) (ap (λ (x : PlanRead). x .plan) read ∙ l .3))
@@ -74,7 +74,7 @@ propose-spec =
     row-zero-requires
     refuse-requires
     returns
-    proposal-requires
+    plan-for-requires
     enum-known-answer
     refuse-requires-2
     returns-2

@@ -1,4 +1,4 @@
--- A plan proposed: what is read of it, and what is judged. Assumes nothing.
+-- A plan for a list: what is read of it, and what is judged. Assumes nothing.
 use mathlib.Core.Path.{_≡_, sym, ap, ap₂, _∙_}
 use mathlib.Core.List.{List}
 use mathlib.Core.Option.{Option, none, some}
@@ -20,8 +20,8 @@ use Rattle.records.proofs.Answers.{plan-array}
 use Rattle.tables.specs.declared.Verdict.the-variants.{Passes, Refused}
 use Rattle.tables.specs.Verdict.{verdict}
 use Rattle.tables.specs.Tables.{net, groupsIn, sharesIn}
+use Rattle.tables.proofs.Verdicts.{verdict-refused, verdict-passes}
 use Rattle.judge.specs.Check.{judgedFor}
-use Rattle.store_calls.proofs.Steps.{verdict-refused, verdict-passes}
 
 module _ (e : Edition) (list : ListArray) (input : List ℕ) (few : list .count ≤ 512) (wide : length (list .sites) ≡ 512) where
   abbrev judge : Plan → Outcome Plan

@@ -1,4 +1,4 @@
--- `store_calls::proposal` meets its contract. Assumes nothing.
+-- `judge::plan_for` meets its contract. Assumes nothing.
 use mathlib.Core.Path.{_≡_, sym, ap, _∙_}
 use borrow.Author.Needs.{needs}
 use lib.ListN.{length, length-map}
@@ -8,19 +8,19 @@ use Rattle.records.specs.Outcome.{passed}
 use Rattle.records.specs.Answer.{planRead, planArray}
 use Rattle.records.specs.Format.{readPlan}
 use Rattle.records.proofs.Answers.{plan-counted, plan-refused as layout-was}
-use Rattle.store_calls.proofs.Proposals.{layout-refused, plan-few, plan-refused, plan-passed}
-use Rattle.store_calls.proofs.proposal.Statement.{statement}
-use Rattle.store_calls.proofs.proposal.Tie as tie
+use Rattle.judge.proofs.PlanFor.{layout-refused, plan-few, plan-refused, plan-passed}
+use Rattle.judge.proofs.plan_for.Statement.{statement}
+use Rattle.judge.proofs.plan_for.Tie as tie
 
 wide : (s : tie.Start) → length (s .args .list .sites) ≡ 512
 wide s = simp length-map at (s .good .1 .0 .1 .1 .1 .0 .1 .0 .1)
 
 -- the plan that was read
-laid : (p : tie.After-enum-told) → let read = p .before .before in let s = read .before .before in (x : Plan) × (readPlan (s .args .e) (s .args .list .count) (s .args .input .now) ≡ passed x) × (read .read .result .plan ≡ planArray x)
+laid : (p : tie.After-enum-told) → let read = p .before .before in let s = read .before .before in (x : Plan) × (readPlan (s .args .e) (s .args .list .count) (s .args .plan .now) ≡ passed x) × (read .read .result .plan ≡ planArray x)
 laid p =
     let read = p .before .before in
     let s = read .before .before in
-    let o = readPlan (s .args .e) (s .args .list .count) (s .args .input .now) in
+    let o = readPlan (s .args .e) (s .args .list .count) (s .args .plan .now) in
     let l = plan-counted o (sym (p .enum-told .given .1) ∙ ap (λ (x : PlanRead). x .answer) (read .read .ensures)) in
     (l .0, l .1, ap (λ (x : PlanRead). x .plan) (read .read .ensures) ∙ l .3)
 
@@ -38,10 +38,10 @@ returns c =
     let told = c .before .before in
     let read = told .before .before in
     let s = read .before .before in
-    let o = readPlan (s .args .e) (s .args .list .count) (s .args .input .now) in
+    let o = readPlan (s .args .e) (s .args .list .count) (s .args .plan .now) in
     let refused = layout-was o (sym (told .answer .given .1) ∙ ap (λ (x : PlanRead). x .answer) (read .read .ensures)) in
     c .no-plan .ensures
-    ∙ sym (ap planRead (layout-refused (s .args .e) (s .args .list) (s .args .input .now) (s .pre .1) (wide s) _ refused))
+    ∙ sym (ap planRead (layout-refused (s .args .e) (s .args .list) (s .args .plan .now) (s .pre .1) (wide s) _ refused))
 
 enum-told : tie.Need-enum-told
 enum-told c = search needs
@@ -54,7 +54,7 @@ plan-row-requires c κs =
     let l = laid p in
     record {
       sites = s .pre .1;
-      groups = plan-few (s .args .e) (s .args .list) (s .args .input .now) (s .pre .1) (wide s) (l .0) (l .1) _ (l .2);
+      groups = plan-few (s .args .e) (s .args .list) (s .args .plan .now) (s .pre .1) (wide s) (l .0) (l .1) _ (l .2);
       range = s .pre .2;
     }
 
@@ -74,7 +74,7 @@ returns-2 c =
     let l = laid p in
     let refused = sym (judged .plan-row .ensures) ∙ told .verdict .given .1 in
     c .no-plan2 .ensures
-    ∙ sym (ap planRead (plan-refused (s .args .e) (s .args .list) (s .args .input .now) (s .pre .1) (wide s) (l .0) (l .1) _ (l .2) _ refused))
+    ∙ sym (ap planRead (plan-refused (s .args .e) (s .args .list) (s .args .plan .now) (s .pre .1) (wide s) (l .0) (l .1) _ (l .2) _ refused))
 
 enum-told-2 : tie.Need-enum-told-2
 enum-told-2 c = search needs
@@ -88,10 +88,10 @@ returns-3 c =
     let l = laid p in
     let passes = sym (judged .plan-row .ensures) ∙ c .enum-told2 .given .1 in
     read .read .ensures
-    ∙ ap planRead (l .1 ∙ sym (plan-passed (s .args .e) (s .args .list) (s .args .input .now) (s .pre .1) (wide s) (l .0) (l .1) _ (l .2) passes))
+    ∙ ap planRead (l .1 ∙ sym (plan-passed (s .args .e) (s .args .list) (s .args .plan .now) (s .pre .1) (wide s) (l .0) (l .1) _ (l .2) passes))
 
-pub proposal-spec : {M : Type 1} → statement M
-proposal-spec =
+pub plan-for-spec : {M : Type 1} → statement M
+plan-for-spec =
     tie.close
     (tie.spec
     read-requires

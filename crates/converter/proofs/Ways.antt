@@ -1,0 +1,312 @@
+-- Document 02, d: what is converted reads as the same figures, passes exactly if it passed, and comes back as the same bytes. One argument for both ways. Assumes nothing.
+use mathlib.Core.Path.{_≡_, refl, sym, ap, _∙_, subst}
+use mathlib.Core.Bool.{Bool, true, false, not, _&&_}
+use mathlib.Core.Logic.{⊎-elim}
+use mathlib.Core.List.{List, [], _∷_}
+use mathlib.Core.Option.{none}
+use Prim.Native.Nat.{ℕ, _*_, _<_, _≤_, _^_}
+use native.Mathlib.Nat.{lt-of-lt-of-le}
+use native.Mathlib.Omega.{arith}
+use borrow.Author.Tests.{eq-eqb, ne-eqb}
+use lib.Dec.{eqb, ltb, lit≤, eqb→eq, ltb→lt, nltb→le, not-T}
+use lib.ListN.{length, take}
+use Rattle.sets.specs.Sum.{any}
+use Rattle.sets.proofs.Sum.{any-at, any-from}
+use Rattle.sets.proofs.Test.{is-false, fails, or-cases, or-r}
+use Rattle.density.specs.Network.{Listing, network, siteAt, noSite}
+use Rattle.density.specs.Plan.{firstShare}
+use Rattle.density.specs.Rows.{row, firstRow, planRows}
+use Rattle.records.specs.declared.Edition.{Edition}
+use Rattle.records.specs.declared.Wrote.the-variants.{Length}
+use Rattle.records.specs.declared.WroteBoth.the-variants.{Lengths}
+use Rattle.records.specs.Bytes.{Bytes, field}
+use Rattle.records.specs.Values.{Plan}
+use Rattle.records.specs.Outcome.{Outcome, refused, passed, gate, bind}
+use Rattle.records.specs.Format.{edition1, edition2, editionOf, readList, readPlan}
+use Rattle.records.specs.Write.{listBytes, planBytes, Marked, Allowed, Good}
+use Rattle.records.specs.Files.{fitted, WrittenOf, Files, files, fittedBoth, WrittenBoth}
+use Rattle.records.proofs.Records.{all-from, all-at}
+use Rattle.records.proofs.Outcomes.{clear}
+use Rattle.records.proofs.RoundTrip.{list-read, list-back, list-again, list-allowed, list-good, list-few, list-depots, laid-read}
+use Rattle.records.proofs.Samples.{marked1, marked2}
+use Rattle.records.proofs.Files.{front-of, fronts-of}
+use Rattle.judge.specs.Check.{judgedFor, judged, checkRow, True}
+use Rattle.judge.proofs.Truth.{judged-true, true-judged}
+use Rattle.judge.proofs.Widths.{true-over}
+use Rattle.converter.specs.declared.Way.{Way}
+use Rattle.converter.specs.Convert.{upgrade, downgrade, way, isOutside, outside, listFor, convertList, convertPlan, Converted}
+use Rattle.converter.proofs.Found.{taken}
+
+-- ---- the two ways
+
+-- the litres of a list have a width
+abbrev Litres : ℕ → Listing → Type 0
+Litres w l = (i : ℕ) → i < length (l .sites) → siteAt l i .litres < 256 ^ w
+
+-- a list of edition 1 fits edition 2
+fits-up : (s : List ℕ) (l : Listing) → Bytes s → readList edition1 512 s ≡ passed l → Litres (edition2 .litres) l
+fits-up s l b h i k = lt-of-lt-of-le (all-at (Good edition1) noSite (l .sites) (list-good edition1 512 s b h) i k .fits) (lit≤ tt)
+
+-- a list that row 21 does not refuse fits edition 1
+fits-down : (l : Listing) → outside l ≡ false → Litres (edition1 .litres) l
+unfolding outside
+fits-down l h i k =
+    let test : ℕ → Bool = λ i. isOutside (siteAt l i) in
+    let w = siteAt l i .litres in
+    let small : w ≤ 65535 = nltb→le 65535 w (not-T (ltb 65535 w) (λ t. fails (any test (length (l .sites))) h (any-from test (length (l .sites)) i k (or-r (eqb w 0) (ltb 65535 w) t)))) in
+    omega arith
+
+-- row 21 refuses no list with the figures of one of edition 1
+comes-back : (s : List ℕ) (l : Listing) → Bytes s → readList edition1 512 s ≡ passed l → outside l ≡ false
+unfolding outside
+comes-back s l b h =
+    is-false (any test (length (l .sites))) (λ t.
+    let (i, k, u) = any-at test (length (l .sites)) t in
+    let g = all-at (Good edition1) noSite (l .sites) (list-good edition1 512 s b h) i k in
+    let w = siteAt l i .litres in
+    ⊎-elim (λ z. let e = eqb→eq w 0 z in let p = g .allowed .some in omega arith) (λ z. let a = ltb→lt 65535 w z in let q = g .fits in omega arith)
+    (or-cases (eqb w 0) (ltb 65535 w) u))
+  where
+    test : ℕ → Bool
+    test i = isOutside (siteAt l i)
+
+marked : (back : Bool) → Marked (way back .to)
+marked false = marked2
+marked true = marked1
+
+wide : (back : Bool) → 256 ^ way back .to .litres * 576 ≤ 256 ^ way back .to .share
+wide false = lit≤ tt
+wide true = lit≤ tt
+
+-- a list that a way takes fits the edition it goes to
+fits : (back : Bool) (s : List ℕ) {l : Listing} → Bytes s → listFor (way back) s ≡ passed l → Litres (way back .to .litres) l
+fits false s {l} b h = fits-up s l b (taken upgrade s h .0)
+fits true s {l} b h = fits-down l (taken downgrade s h .1)
+
+-- figures that came from there are taken back
+takes : (back : Bool) (s t : List ℕ) {l : Listing} → Bytes t → readList (way back .from) 512 s ≡ passed l → readList (way back .to) 512 t ≡ passed l → listFor (way back) s ≡ passed l
+unfolding firstRow
+takes false s t b r k = rw r refl
+takes true s t {l} b r k = rw (r, comes-back t l b k) refl
+
+-- what a way writes, the other reads
+other-to : (back : Bool) → way (not back) .to ≡ way back .from
+other-to false = refl
+other-to true = refl
+
+other-from : (back : Bool) → way (not back) .from ≡ way back .to
+other-from false = refl
+other-from true = refl
+
+-- ---- a list that a way takes
+
+module _ (back : Bool) (s : List ℕ) {l : Listing} (bytes : Bytes s) (took : listFor (way back) s ≡ passed l) where
+  read-in : readList (way back .from) 512 s ≡ passed l
+  read-in = taken (way back) s took .0
+
+  few : length (l .sites) ≤ 512
+  few = list-few (way back .from) 512 s read-in .0
+
+  read-over : readList (way back .to) 512 (listBytes (way back .to) l) ≡ passed l
+  read-over =
+      list-back (way back .to) (marked back) l few 512 few
+      (all-from (Good (way back .to)) noSite (l .sites) (λ i k. record { allowed = all-at Allowed noSite (l .sites) (list-allowed (way back .from) 512 s read-in) i k; fits = fits back s bytes took i k }))
+
+  again : listBytes (way back .from) l ≡ s
+  again = list-again (way back .from) 512 s bytes read-in
+
+  -- what is written for it is taken back
+  back-taken : listFor (way (not back)) (listBytes (way back .to) l) ≡ passed l
+  back-taken =
+      takes (not back) (listBytes (way back .to) l) s bytes (subst (λ (e : Edition). readList e 512 (listBytes (way back .to) l) ≡ passed l) (sym (other-from back)) read-over)
+      (subst (λ (e : Edition). readList e 512 s ≡ passed l) (sym (other-to back)) read-in)
+
+  -- a plan that passes with it
+  module _ (plan : List ℕ) {p : Plan} (plan-bytes : Bytes plan) (passes : judgedFor (way back .from) l plan ≡ passed p) where
+    true-in : True (way back .from) l p plan
+    true-in = judged-true (way back .from) l (list-depots (way back .from) 512 s read-in) plan p plan-bytes passes
+
+    true-out : True (way back .to) l p (planBytes (way back .to) p)
+    true-out = true-over (way back .from) (way back .to) l p (wide back) (fits back s bytes took) true-in
+
+    judged-over : judgedFor (way back .to) l (planBytes (way back .to) p) ≡ passed p
+    judged-over = true-judged (way back .to) l (list-depots (way back .from) 512 s read-in) (planBytes (way back .to) p) p (marked back) few true-out
+
+-- the edition that a list's first bytes name is that in which it reads
+named1 : (s : List ℕ) {l : Listing} → readList edition1 512 s ≡ passed l → editionOf s ≡ edition1
+named1 s h = let m = list-read edition1 512 s h .mark in rw (ne-eqb (field s 0 2) 0x324C (λ k. omega arith)) refl
+
+named2 : (s : List ℕ) {l : Listing} → readList edition2 512 s ≡ passed l → editionOf s ≡ edition2
+named2 s h = let m = list-read edition2 512 s h .mark in rw (eq-eqb (field s 0 2) 0x324C m) refl
+
+from-named : (back : Bool) (s : List ℕ) {l : Listing} → readList (way back .from) 512 s ≡ passed l → editionOf s ≡ way back .from
+from-named false s h = named1 s h
+from-named true s h = named2 s h
+
+to-named : (back : Bool) (s : List ℕ) {l : Listing} → readList (way back .to) 512 s ≡ passed l → editionOf s ≡ way back .to
+to-named false s h = named2 s h
+to-named true s h = named1 s h
+
+-- a plan that no row refuses was read
+judged-read : (e : Edition) (l : Listing) (plan : List ℕ) {p : Plan} → judgedFor e l plan ≡ passed p → readPlan e (length (l .sites)) plan ≡ passed p
+judged-read e l plan {p} h = by-read (readPlan e (length (l .sites)) plan) h
+  where
+    by-read : (o : Outcome Plan) → bind o (λ (q : Plan). gate (planRows (network l) (q .groups) (q .shares)) q) ≡ passed p → o ≡ passed p
+    by-read (refused n) h = let z : _≡_ {A = ℕ} 0 1 = cc in absurd (omega arith)
+    by-read (passed q) h = ap passed (clear (planRows (network l) (q .groups) (q .shares)) h .1)
+
+-- ---- what is found where a length is answered
+
+list-found : (w : Way) (s out : List ℕ) {x : List ℕ} → convertList w s out ≡ passed x → (l : Listing) × (listFor w s ≡ passed l) × (listBytes (w .to) l ≡ x)
+list-found w s out {x} h = by-list (listFor w s) refl h
+  where
+    by-list : (o : Outcome Listing) → listFor w s ≡ o → bind o (λ (l : Listing). fitted (listBytes (w .to) l) out) ≡ passed x
+        → (l : Listing) × (listFor w s ≡ passed l) × (listBytes (w .to) l ≡ x)
+    by-list (refused n) r h = let z : _≡_ {A = ℕ} 0 1 = cc in absurd (omega arith)
+    by-list (passed l) r h = (l, r, clear (row 20 (ltb (length out) (length (listBytes (w .to) l))) ∷ []) h .1)
+
+-- a list was taken, a plan passed with it, and both were written
+record BothFound (w : Way) (s plan : List ℕ) (x : Files) : Type 0 where
+  sites : Listing
+  figures : Plan
+  took : listFor w s ≡ passed sites
+  passes : judgedFor (w .from) sites plan ≡ passed figures
+  wrote : files (w .to) sites figures ≡ x
+
+plan-found : (w : Way) (s plan out other : List ℕ) {x : Files} → convertPlan w s plan out other ≡ passed x → BothFound w s plan x
+plan-found w s plan out other {x} h = by-list (listFor w s) refl h
+  where
+    by-plan : (l : Listing) → listFor w s ≡ passed l → (o : Outcome Plan) → judgedFor (w .from) l plan ≡ o
+        → bind o (λ (p : Plan). fittedBoth (files (w .to) l p) out other) ≡ passed x → BothFound w s plan x
+    by-plan l r (refused n) k h = let z : _≡_ {A = ℕ} 0 1 = cc in absurd (omega arith)
+    by-plan l r (passed p) k h =
+        record {
+          sites = l;
+          figures = p;
+          took = r;
+          passes = k;
+          wrote = clear (row 20 (ltb (length out) (length (listBytes (w .to) l))) ∷ row 20 (ltb (length other) (length (planBytes (w .to) p))) ∷ []) h .1;
+        }
+
+    by-list : (o : Outcome Listing) → listFor w s ≡ o
+        → bind o (λ (l : Listing). bind (judgedFor (w .from) l plan) (λ (p : Plan). fittedBoth (files (w .to) l p) out other)) ≡ passed x → BothFound w s plan x
+    by-list (refused n) r h = let z : _≡_ {A = ℕ} 0 1 = cc in absurd (omega arith)
+    by-list (passed l) r h = by-plan l r (judgedFor (w .from) l plan) refl h
+
+-- ---- a list alone, by the contract of `upgrade_list` and `downgrade_list`
+
+module _ (back : Bool) (s out last : List ℕ) (n : ℕ) (bytes : Bytes s) (c : WrittenOf (convertList (way back) s out) out (Length n) last) where
+  found : (l : Listing) × (listFor (way back) s ≡ passed l) × (listBytes (way back .to) l ≡ take n last)
+  found = list-found (way back) s out (front-of (convertList (way back) s out) out last n c)
+
+  -- "with the same figures in the same order"
+  pub list-figures : (l : Listing) × (readList (way back .from) 512 s ≡ passed l) × (readList (way back .to) 512 (take n last) ≡ passed l)
+  list-figures =
+      let (l, took, wrote) = found in
+      (l, read-in back s bytes took, subst (λ (t : List ℕ). readList (way back .to) 512 t ≡ passed l) wrote (read-over back s bytes took))
+
+  -- "Going there and back restores the bytes": the other way writes what was given, and only a short buffer stops it
+  pub list-restored : (out′ : List ℕ) → convertList (way (not back)) (take n last) out′ ≡ fitted s out′
+  list-restored out′ =
+      let (l, took, wrote) = found in
+      rw (← wrote, back-taken back s bytes took, other-to back, again back s bytes took) refl
+
+  -- so two calls that answer lengths end where they began
+  pub list-returned : (out′ last′ : List ℕ) (n′ : ℕ) → WrittenOf (convertList (way (not back)) (take n last) out′) out′ (Length n′) last′ → take n′ last′ ≡ s
+  list-returned out′ last′ n′ d =
+      let h = sym (list-restored out′) ∙ front-of (convertList (way (not back)) (take n last) out′) out′ last′ n′ d in
+      sym (clear (row 20 (ltb (length out′) (length s)) ∷ []) h .1)
+
+-- ---- a list with its plan, by the contract of `upgrade_plan` and `downgrade_plan`
+
+module _ (back : Bool) (s plan out other last rest : List ℕ) (n k : ℕ) (bytes : Bytes s) (plan-bytes : Bytes plan)
+    (c : WrittenBoth (convertPlan (way back) s plan out other) out other (Lengths n k) last rest) where
+  both-found : BothFound (way back) s plan (record { list = take n last; plan = take k rest })
+  both-found = plan-found (way back) s plan out other (fronts-of (convertPlan (way back) s plan out other) out other last rest n k c)
+
+  list-wrote : listBytes (way back .to) (both-found .sites) ≡ take n last
+  list-wrote = ap (λ (x : Files). x .list) (both-found .wrote)
+
+  plan-wrote : planBytes (way back .to) (both-found .figures) ≡ take k rest
+  plan-wrote = ap (λ (x : Files). x .plan) (both-found .wrote)
+
+  list-over : readList (way back .to) 512 (take n last) ≡ passed (both-found .sites)
+  list-over = subst (λ (t : List ℕ). readList (way back .to) 512 t ≡ passed (both-found .sites)) list-wrote (read-over back s bytes (both-found .took))
+
+  -- "with the same figures in the same order"
+  pub plan-figures : Converted (way back) s plan (take n last) (take k rest)
+  unfolding network firstShare
+  plan-figures =
+      let took = both-found .took in
+      let before = true-in back s bytes took plan plan-bytes (both-found .passes) in
+      let after = true-out back s bytes took plan plan-bytes (both-found .passes) in
+      record {
+        sites = both-found .sites;
+        figures = both-found .figures;
+        list-given = read-in back s bytes took;
+        list-written = list-over;
+        plan-given = judged-read (way back .from) (both-found .sites) plan (both-found .passes);
+        plan-written =
+            subst (λ (t : List ℕ). readPlan (way back .to) (length (both-found .sites .sites)) t ≡ passed (both-found .figures)) plan-wrote
+            (laid-read (way back .to) (marked back) (both-found .sites) (few back s bytes took) (after .layout));
+        fits = λ i h. (before .shares .rules i h .bound, after .layout .fits i (omega (arith, after .layout .each)));
+      }
+
+  -- "passes after if it passed before": by Check, which goes by the edition that the list's first bytes name
+  pub converted-passes : (checkRow (editionOf s) s plan ≡ none) × (checkRow (editionOf (take n last)) (take n last) (take k rest) ≡ none)
+  unfolding checkRow
+  converted-passes =
+      let took = both-found .took in
+      let given = read-in back s bytes took in (
+        rw (from-named back s given, given, both-found .passes) refl,
+        rw (to-named back (take n last) list-over, list-over, ← plan-wrote, judged-over back s bytes took plan plan-bytes (both-found .passes)) refl,
+      )
+
+  -- "Going there and back restores the bytes": the other way writes what was given, and only short buffers stop it
+  pub plan-restored : (out′ other′ : List ℕ) → convertPlan (way (not back)) (take n last) (take k rest) out′ other′ ≡ fittedBoth (record { list = s; plan = plan }) out′ other′
+  plan-restored out′ other′ =
+      let took = both-found .took in
+      let before = true-in back s bytes took plan plan-bytes (both-found .passes) in
+      rw (
+        ← list-wrote,
+        ← plan-wrote,
+        back-taken back s bytes took,
+        other-from back,
+        judged-over back s bytes took plan plan-bytes (both-found .passes),
+        other-to back,
+        again back s bytes took,
+        ← (before .layout .bytes-are),
+      )
+      refl
+
+  -- so two calls that answer lengths end where they began
+  pub plan-returned : (out′ other′ last′ rest′ : List ℕ) (n′ k′ : ℕ)
+      → WrittenBoth (convertPlan (way (not back)) (take n last) (take k rest) out′ other′) out′ other′ (Lengths n′ k′) last′ rest′ → (take n′ last′ ≡ s) × (take k′ rest′ ≡ plan)
+  plan-returned out′ other′ last′ rest′ n′ k′ d =
+      let h = sym (plan-restored out′ other′) ∙ fronts-of (convertPlan (way (not back)) (take n last) (take k rest) out′ other′) out′ other′ last′ rest′ n′ k′ d in
+      let e = clear (row 20 (ltb (length out′) (length s)) ∷ row 20 (ltb (length other′) (length plan)) ∷ []) h .1 in
+      (sym (ap (λ (x : Files). x .list) e), sym (ap (λ (x : Files). x .plan) e))
+
+-- ---- Check
+
+-- "A plan .. passes after if it passed before": where the list is taken, the rows tried on the plan are Check's, so the plan is converted exactly if it passes and both buffers have room
+pub plan-by-check : (w : Way) (s plan out other : List ℕ) {l : Listing} → listFor w s ≡ passed l
+    → convertPlan w s plan out other ≡ bind (judged (w .from) s plan) (λ (p : Plan). fittedBoth (files (w .to) l p) out other)
+plan-by-check w s plan out other h = rw (h, taken w s h .0) refl
+
+-- going up, every list of edition 1 is taken
+pub up-taken : (s : List ℕ) → listFor upgrade s ≡ readList edition1 512 s
+unfolding firstRow
+up-taken s = by-read (readList edition1 512 s)
+  where
+    by-read : (o : Outcome Listing) → bind o (λ (l : Listing). gate (row 21 (false && outside l) ∷ []) l) ≡ o
+    by-read (refused n) = refl
+    by-read (passed l) = refl
+
+-- Check's answer depends on the figures alone: a list and a plan that read as the same figures in the two editions get the same row, or pass, in both; so one passes exactly if the
+-- other does
+pub same-row : (back : Bool) (s plan t plan′ : List ℕ) {l : Listing} {p : Plan} → readList (way back .from) 512 s ≡ passed l → readList (way back .to) 512 t ≡ passed l
+    → readPlan (way back .from) (length (l .sites)) plan ≡ passed p → readPlan (way back .to) (length (l .sites)) plan′ ≡ passed p
+    → checkRow (editionOf s) s plan ≡ checkRow (editionOf t) t plan′
+unfolding checkRow
+same-row back s plan t plan′ r k u v = rw (from-named back s r, to-named back t k, r, k, u, v) refl

@@ -1,0 +1,126 @@
+-- `writers::both` meets its contract. Assumes nothing.
+use Prim.Native.Nat.{ℕ, _≤_, _+_, _*_}
+use mathlib.Core.Path.{_≡_, _∙_, ap, ap₂}
+use native.Mathlib.Nat.{mul-le-mul-right}
+use native.Mathlib.Omega.{arith}
+use lib.ListN.{length, length-map}
+use lib.Seq.{length-take-le}
+use Rattle.records.specs.Format.{siteSize, shareSize}
+use Rattle.records.specs.Values.{listing, planIn}
+use Rattle.records.specs.Write.{listBytes, planBytes}
+use Rattle.records.specs.Files.{Files, files}
+use Rattle.records.proofs.Buffers.{length-list, length-plan}
+use Rattle.records.proofs.Files.{first-short, second-short, both-written}
+use borrow.Author.Needs.{needs}
+use Rattle.writers.proofs.both.Statement.{statement}
+use Rattle.writers.proofs.both.Tie as tie
+
+-- what is written
+abbrev given : tie.Start → Files
+given s = files (s .args .e) (listing (s .args .l)) (planIn (s .args .p) (s .args .l .count))
+
+-- the lengths of it
+first-length : (s : tie.Start) → length (listBytes (s .args .e) (listing (s .args .l))) ≡ 4 + (4 + s .args .e .litres) * s .args .l .count
+first-length s =
+    let wide : length (s .args .l .sites) ≡ 512 = simp length-map at (s .good .1 .0 .1 .1 .1 .0 .1 .0 .1) in
+    length-list (s .args .e) (listing (s .args .l)) ∙ ap (λ (k : ℕ). 4 + siteSize (s .args .e) * k) (length-take-le (s .args .l .count) (s .args .l .sites) (omega (arith, s .pre .2)))
+
+second-length : (s : tie.Start) → length (planBytes (s .args .e) (planIn (s .args .p) (s .args .l .count))) ≡ 5 + 10 * s .args .p .count + (2 + s .args .e .share) * s .args .l .count
+second-length s =
+    let deep : length (s .args .p .groups) ≡ 64 = simp length-map at (s .good .1 .1 .0 .1 .1 .1 .0 .1 .0 .1) in
+    let wide : length (s .args .p .shares) ≡ 512 = simp length-map at (s .good .1 .1 .0 .1 .1 .1 .1 .0 .1 .0 .1) in
+    length-plan (s .args .e) (planIn (s .args .p) (s .args .l .count))
+    ∙ ap₂ (λ (g n : ℕ). 5 + 10 * g + shareSize (s .args .e) * n) (length-take-le (s .args .p .count) (s .args .p .groups) (omega (arith, s .pre .3)))
+    (length-take-le (s .args .l .count) (s .args .p .shares) (omega (arith, s .pre .2)))
+
+small : (s : tie.Start) → (4 + s .args .e .litres) * s .args .l .count ≤ 12 * s .args .l .count
+small s = mul-le-mul-right (s .args .l .count) (omega (arith, s .pre .0))
+
+small-share : (s : tie.Start) → (2 + s .args .e .share) * s .args .l .count ≤ 10 * s .args .l .count
+small-share s = mul-le-mul-right (s .args .l .count) (omega (arith, s .pre .1))
+
+add-first : tie.Need-add-first
+add-first c = search needs
+
+mul-first : tie.Need-mul-first
+mul-first c = let s = c .before .before .before in omega (arith, small s, s .pre .2)
+
+add-first-2 : tie.Need-add-first-2
+add-first-2 c = let s = c .before .before .before in omega (arith, small s, s .pre .2)
+
+mul-second : tie.Need-mul-second
+mul-second c = search needs
+
+add-second : tie.Need-add-second
+add-second c = search needs
+
+add-second-2 : tie.Need-add-second-2
+add-second-2 c = search needs
+
+mul-second-2 : tie.Need-mul-second-2
+mul-second-2 c =
+    let first = c .before .before in
+    let s = first .before .before .before in
+    omega (arith, small-share s, s .pre .2)
+
+add-second-3 : tie.Need-add-second-3
+add-second-3 c =
+    let first = c .before .before in
+    let s = first .before .before .before in
+    omega (arith, small-share s, s .pre .2, s .pre .3)
+
+returns : tie.Need-returns
+returns c =
+    let second = c .before .before .before in
+    let s = second .before .before .before in
+    first-short (given s) _ _ (first-length s) (second-length s) (c .if1 .taken)
+
+returns-2 : tie.Need-returns-2
+returns-2 c =
+    let long = c .before in
+    let second = long .before .before .before in
+    let s = second .before .before .before in
+    second-short (given s) _ _ (first-length s) (second-length s) (long .if1 .left) (c .if2 .taken)
+
+list-requires : tie.Need-list-requires
+list-requires c κs = search needs
+
+plan-requires : tie.Need-plan-requires
+plan-requires c κs = search needs
+
+same-length : tie.Need-same-length
+same-length c = search needs
+
+same-length-2 : tie.Need-same-length-2
+same-length-2 c = search needs
+
+returns-3 : tie.Need-returns-3
+returns-3 c =
+    let plan = c .before .before in
+    let list-back = plan .before .before in
+    let list = list-back .before .before in
+    let room = list .before .before in
+    let long = room .before in
+    let second = long .before .before .before in
+    let s = second .before .before .before in
+    both-written (given s) _ _ (first-length s) (second-length s) (long .if1 .left) (room .if2 .left) (list .list .ensures) (plan .plan .ensures)
+
+pub both-spec : {M : Type 1} → statement M
+both-spec =
+    tie.close
+    (tie.spec
+    add-first
+    mul-first
+    add-first-2
+    mul-second
+    add-second
+    add-second-2
+    mul-second-2
+    add-second-3
+    returns
+    returns-2
+    list-requires
+    plan-requires
+    same-length
+    same-length-2
+    returns-3)
