@@ -115,7 +115,7 @@ int64_t sulgheti_make(const uint8_t *list, size_t list_len, uint8_t *out, size_t
 
 /* Writes the list in the other edition to the front of out and answers its length, 4 + 8 x sites by upgrade and
  * 4 + 6 x sites by downgrade; otherwise -row: rows 1 to 6 of the list in the edition that the function takes; by
- * downgrade 21 where a site's litres are not 1 to 65,535, all that edition 1 has; 20 where out is too short. The bytes
+ * downgrade 21 where a site's litres are not 1 to 65,535 (edition 1 has no others); 20 where out is too short. The bytes
  * behind the list are unchanged, and all of out where a row refuses. SULGHETI_LIST2_MAX bytes always suffice, and by
  * downgrade SULGHETI_LIST_MAX. */
 int64_t sulgheti_upgrade_list(const uint8_t *list, size_t list_len, uint8_t *out, size_t out_len);

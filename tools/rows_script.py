@@ -1571,11 +1571,9 @@ def part_convert_buffers(way):
         for k, j in pairs if words == "T" else pairs[:9]:
             convert(None, way, 20 if k < n or j < m else 0, (a, b), k, j)
     say("The largest buffer.")
-    if e is E1:
-        convert(None, way, 0, (e.T,), 8192)
-        convert(None, way, 0, (e.T, e.TP), 8192, len(other.TP))
-    else:
-        convert(None, way, 0, (e.T, e.TP), len(other.T), 8192)
+    convert(None, way, 0, (e.T,), 8192)
+    convert(None, way, 0, (e.T, e.TP), *((8192, len(other.TP)) if e is E1 else (len(other.T), 8192)))
+    convert(None, way, 0, (e.T, e.TP), 8192, 8192)
     say("Rows 7 to 16 with buffers too short: the plan's row, and not row 20.")
     for row, list_bytes, plan_bytes in refused_plans(e, 10):
         convert(None, way, row, (list_bytes, plan_bytes), 0, 0)

@@ -96,17 +96,17 @@ static int desks(void) {
     /* what the new desk holds goes back, as long as the litres fit, and the old one takes it again */
     uint8_t back[16];
     clear();
-    if (sulgheti_list(next, sizeof next, table, sizeof table, list, sizeof list) != n2) return 11;
+    if (sulgheti_list(next, sizeof next, table, sizeof table, list, sizeof list) != n2) return 10;
     const int64_t m2 = sulgheti_written(next, sizeof next, table, sizeof table, plan, sizeof plan);
-    if (m2 != m + 8) return 12;
-    if (sulgheti_downgrade_plan(list, (size_t)n2, plan, (size_t)m2, back, sizeof back, again, sizeof again, &length) != 16) return 13;
-    if (length != (size_t)m || memcmp(back, old_list, 16) != 0 || memcmp(again, old_plan, length) != 0) return 17;
-    if (sulgheti_fresh(old, sizeof old) != 0 || sulgheti_load(old, sizeof old, old_table, sizeof old_table, back, 16) != 0) return 18;
-    if (sulgheti_propose(old, sizeof old, old_table, sizeof old_table, again, length) != 0) return 19;
-    if (!same_shares(old, old_table, next, table)) return 20;
-    if (sulgheti_change2(next, sizeof next, table, sizeof table, 1, 65536) != 0) return 14;
-    if (sulgheti_list(next, sizeof next, table, sizeof table, list, sizeof list) != 20) return 15;
-    return sulgheti_downgrade_list(list, 20, old_list, sizeof old_list) == -21 ? 0 : 16;
+    if (m2 != m + 8) return 11;
+    if (sulgheti_downgrade_plan(list, (size_t)n2, plan, (size_t)m2, back, sizeof back, again, sizeof again, &length) != 16) return 12;
+    if (length != (size_t)m || memcmp(back, old_list, 16) != 0 || memcmp(again, old_plan, length) != 0) return 13;
+    if (sulgheti_fresh(old, sizeof old) != 0 || sulgheti_load(old, sizeof old, old_table, sizeof old_table, back, 16) != 0) return 14;
+    if (sulgheti_propose(old, sizeof old, old_table, sizeof old_table, again, length) != 0) return 15;
+    if (!same_shares(old, old_table, next, table)) return 16;
+    if (sulgheti_change2(next, sizeof next, table, sizeof table, 1, 65536) != 0) return 17;
+    if (sulgheti_list(next, sizeof next, table, sizeof table, list, sizeof list) != 20) return 18;
+    return sulgheti_downgrade_list(list, 20, old_list, sizeof old_list) == -21 ? 0 : 19;
 }
 
 int main(void) {

@@ -401,6 +401,9 @@ int main(void) {
     printf("stack_t: bytes of stack written in edition 1 and in edition 2, of those stated:");
     for (int call = 0; call < CALLS; call++) printf(" %s %zu and %zu of %zu%c", calls[call].name, calls[call].seen[0], calls[call].seen[1], calls[call].stated, call + 1 < CALLS ? ',' : '\n');
     /* the room that the header promises above what is written */
-    for (int call = 0; call < CALLS; call++) for (int two = 0; two < 2; two++) if (calls[call].stated - calls[call].seen[two] < 8000) return 3;
+    for (int call = 0; call < CALLS; call++) for (int of = 0; of < 2; of++) if (calls[call].stated - calls[call].seen[of] < 8000) {
+        fprintf(stderr, "stack_t: edition %d: sulgheti_%s leaves less than 8,000 of the %zu bytes that the header states\n", of + 1, calls[call].name, calls[call].stated);
+        return 3;
+    }
     return 0;
 }

@@ -21,6 +21,7 @@ pub fn conversions(run: &mut Run, cases: usize) {
     every_count(run);
     ends(run);
     largest(run);
+    any_bytes(run);
     all_pairs(run);
     let end = run.cases + cases;
     while run.cases < end {
@@ -40,6 +41,7 @@ fn needed(base: &Base) -> [usize; 2] {
 }
 
 /// A list and a plan, and how long the buffers for them are.
+#[derive(Clone)]
 struct Given {
     list: Vec<u8>,
     plan: Vec<u8>,
@@ -54,17 +56,23 @@ impl Given {
     }
 }
 
-/// The list alone and with the plan.
-fn both(run: &mut Run, from: Edition, given: &Given) -> u8 {
-    run.convert_list(from, &given.list, &[], given.room[0]);
-    run.convert_plan(from, &given.list, &given.plan, given.room)
+/// The list alone and with the plan: the rows of both.
+fn both(run: &mut Run, from: Edition, given: &Given) -> [u8; 2] {
+    let alone = run.convert_list(from, &given.list, &[], given.room[0]);
+    [alone, run.convert_plan(from, &given.list, &given.plan, given.room)]
 }
 
-/// The same, with a row that is known.
+/// The same, with a row that is known. The list alone gets it too where it is the list's; any other list reads, and
+/// fits its buffer or not.
 fn expect(run: &mut Run, from: Edition, given: &Given, row: u8, what: &str) {
-    let answer = both(run, from, given);
-    if answer != row {
-        let what = format!("from edition {}, {what}: row {answer}, expected {row}", from.number);
+    let alone = match row {
+        1..=6 | 21 => row,
+        _ if given.room[0] < from.other().list_length(given.list.len() / from.site_bytes) => 20,
+        _ => 0,
+    };
+    let answers = both(run, from, given);
+    if answers != [alone, row] {
+        let what = format!("from edition {}, {what}: rows {answers:?}, expected {:?}", from.number, [alone, row]);
         run.fail(&what, &[("list", &given.list), ("plan", &given.plan)]);
     }
 }
@@ -213,7 +221,8 @@ fn every_count(run: &mut Run) {
     }
 }
 
-/// Litres at the ends of edition 1's and beyond them, at each site of short lists and at some of the longest.
+/// Litres at the ends of edition 1's and beyond them, at each site of short lists and at some of the longest; one litre
+/// too many at each site of the longest.
 fn ends(run: &mut Run) {
     let fit = [1, 2, 255, 256, 32_767, 32_768, 65_534, 65_535];
     // right or 0 in their low bytes
@@ -239,10 +248,18 @@ fn ends(run: &mut Run) {
             }
         }
     }
-    // all sites beyond them
-    let heavy = known::own_sites(65_536);
-    let base = Base { edition: TWO, plan: run.plan(&heavy), sites: heavy };
-    expect(run, TWO, &Given::of(&base), 21, "65,536 litres each");
+    // all sites beyond them, none, and each one alone, with no bytes as a plan
+    for (litres, row) in [(65_536, 21), (65_535, 0)] {
+        let sites = known::own_sites(litres);
+        let base = Base { edition: TWO, plan: run.plan(&sites), sites };
+        expect(run, TWO, &Given::of(&base), row, "equal litres at the ends");
+    }
+    for at in 0..512 {
+        let mut sites = known::own_sites(65_535);
+        sites[at].litres = 65_536;
+        let given = Given { list: list_bytes(TWO, &sites), plan: vec![], room: [ONE.list_length(512), 5] };
+        expect(run, TWO, &given, 21, "65,536 litres at one of 512 sites");
+    }
 }
 
 /// The largest list of each family, each way.
@@ -252,6 +269,35 @@ fn largest(run: &mut Run) {
             let sites = family(&mut run.rng, Extent { litres, ..LARGEST });
             for edition in EDITIONS {
                 work_on(run, edition, &sites, 2);
+            }
+        }
+    }
+}
+
+/// Bytes at random, wholly and behind the right mark, as a list and as a plan; and one slice as both, which the wrapper
+/// is lent itself.
+fn any_bytes(run: &mut Run) {
+    for e in EDITIONS {
+        let (t, t_plan) = known::t(e);
+        for _ in 0..500 {
+            let room = [0; 2].map(|_| run.rng.from_to(0, 6_000));
+            let [list, plan] = room.map(|n| run.junk(n));
+            run.convert_plan(e, &list, &list, room);
+            run.convert_plan(e, &list, &t_plan, room);
+            run.convert_plan(e, &t, &plan, room);
+            run.convert_plan(e, &t, &[&e.plan[..], &plan].concat(), room);
+            let marked = [&e.list[..], &list].concat();
+            run.convert_plan(e, &marked, &marked, room);
+            both(run, e, &Given { list: marked, plan: plan.clone(), room });
+            both(run, e, &Given { list, plan, room });
+        }
+        let heavy = list_bytes(e, &[site(0, 1, e.most())]);
+        let heavy_row = if e == TWO { 21 } else { 7 };
+        for (one, row) in [(t, 7), (t_plan, 1), (known::t(e.other()).0, 1), (vec![], 1), (heavy, heavy_row)] {
+            let answer = run.convert_plan(e, &one, &one, [12, 25]);
+            if answer != row {
+                let what = format!("from edition {}, one slice as both: row {answer}, expected {row}", e.number);
+                run.fail(&what, &[("both", &one)]);
             }
         }
     }
@@ -283,7 +329,8 @@ fn faults(from: Edition) -> Vec<Fault> {
     list.chain(beyond).chain(plan).chain([Short(true, false), Short(false, true), Short(true, true)]).collect()
 }
 
-/// For every two faults of a way, in different rows: what has both is refused by the earlier.
+/// For every two faults of a way, in different rows: what has both is refused by the earlier. An input counts where the
+/// earlier damage leaves all of the later.
 fn all_pairs(run: &mut Run) {
     for e in EDITIONS {
         let faults = faults(e);
@@ -325,9 +372,11 @@ fn parts(run: &mut Run, edition: Edition) -> Base {
     Base { edition, plan: run.plan(&sites), sites }
 }
 
-/// Damage for a later fault and then for an earlier one. False where the base does not allow both.
+/// Damage for a later fault and then for an earlier one. False where the base does not allow both, or where the second
+/// damage takes back some of the first.
 fn pair(run: &mut Run, base: &Base, early: Fault, late: Fault) -> bool {
     let e = base.edition;
+    let whole = Given::of(base);
     let reordered = if late == Row(16) { reordered(&mut run.rng, base) } else { None };
     if late == Row(16) && reordered.is_none() {
         return false;
@@ -339,11 +388,19 @@ fn pair(run: &mut Run, base: &Base, early: Fault, late: Fault) -> bool {
         return false;
     }
     expect(run, e, &given, late.row(), &format!("{late:?}"));
+    let once = given.clone();
     if !fault(run, early, base, &mut given) {
         return false;
     }
     expect(run, e, &given, early.row(), &format!("{early:?} and {late:?}"));
-    true
+    kept(&whole.list, &once.list, &given.list) && kept(&whole.plan, &once.plan, &given.plan)
+}
+
+/// Whether damage done to `whole` still stands in `twice`, which was damaged again: its length and each byte that it
+/// changed.
+fn kept(whole: &[u8], once: &[u8], twice: &[u8]) -> bool {
+    let changed = |i: &usize| whole.get(*i) != once.get(*i);
+    once == whole || once.len() == twice.len() && (0..once.len()).filter(changed).all(|i| once[i] == twice[i])
 }
 
 /// Spoils what a fault is about, in the bytes of `base` or in bytes that a later one's damage has changed. False where
@@ -351,11 +408,11 @@ fn pair(run: &mut Run, base: &Base, early: Fault, late: Fault) -> bool {
 fn fault(run: &mut Run, fault: Fault, base: &Base, given: &mut Given) -> bool {
     let (e, rng) = (base.edition, &mut run.rng);
     match fault {
-        // a list of the other edition, wholly or by its head
+        // a list of the other edition, by its head, or wholly if there is no damage in it
         Row(1) if rng.percent(40) => {
-            if rng.percent(50) {
+            if given.list == list_bytes(e, &base.sites) && rng.percent(50) {
                 given.list = list_bytes(e.other(), &base.sites);
-            } else if given.list.len() >= 2 {
+            } else {
                 given.list[..2].copy_from_slice(&e.other().list);
             }
         }

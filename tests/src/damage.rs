@@ -130,7 +130,8 @@ pub fn spoil(rng: &mut Rng, row: u8, base: &Base, list: &mut Vec<u8>, plan: &mut
         }
         7 => match rng.below(10) {
             0..=2 => plan.truncate(rng.below(5)),
-            3 | 4 => *plan = plan_bytes(other, &base.plan),
+            // the other edition's, if there is no damage in it
+            3 | 4 if *plan == plan_bytes(e, &base.plan) => *plan = plan_bytes(other, &base.plan),
             _ => spoil_mark(rng, plan, 0, other.plan),
         },
         8 => {

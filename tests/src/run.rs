@@ -181,7 +181,7 @@ impl Run {
     }
 
     /// So many bytes of any content.
-    fn junk(&mut self, room: usize) -> Vec<u8> {
+    pub fn junk(&mut self, room: usize) -> Vec<u8> {
         (0..room).map(|_| self.rng.byte()).collect()
     }
 
@@ -274,9 +274,14 @@ impl Run {
         if plan_out.bytes() != left[1] || !plan_out.kept_around() {
             self.fail(&format!("{what}: leaves another buffer of the plan, or writes beside it"), &given);
         }
-        let mut again = content;
-        let wrapped = wrapped_plan(from, list, plan, &mut again);
-        if wrapped.map_err(|row| row.0) != lengths.map_err(|row| *row) || again != left {
+        // by the wrapper into one block: the list's buffer, directly behind it the plan's, then guard bytes
+        let guard = self.junk(24);
+        let mut block = [&content[0][..], &content[1], &guard].concat();
+        let (list_out, behind) = block.split_at_mut(room[0]);
+        let wrapped = wrapped_plan(from, list, plan, list_out, &mut behind[..room[1]]);
+        if wrapped.map_err(|row| row.0) != lengths.map_err(|row| *row)
+            || block != [&left[0][..], &left[1], &guard].concat()
+        {
             self.fail(&format!("{what}: the wrapper differs"), &given);
         }
         self.convert_judged(from, list, plan, &what, expected.as_ref().map_err(|row| *row));
@@ -302,9 +307,9 @@ impl Run {
         if verdict(new_list, new_plan) != 0 || reference::check(new_list, new_plan) != 0 {
             self.fail(&format!("{what}: the plan does not pass after"), &given);
         }
-        let mut back = [vec![0; list.len()], vec![0; plan.len()]];
-        let lengths = wrapped_plan(from.other(), new_list, new_plan, &mut back);
-        if lengths != Ok((list.len(), plan.len())) || back[0] != list || back[1] != plan {
+        let (mut back, mut plan_back) = (vec![0; list.len()], vec![0; plan.len()]);
+        let lengths = wrapped_plan(from.other(), new_list, new_plan, &mut back, &mut plan_back);
+        if lengths != Ok((list.len(), plan.len())) || back != list || plan_back != plan {
             self.fail(&format!("{what}: there and back are other bytes"), &given);
         }
     }
@@ -329,7 +334,8 @@ fn wrapped_plan(
     from: Edition,
     list: &[u8],
     plan: &[u8],
-    [list_out, plan_out]: &mut [Vec<u8>; 2],
+    list_out: &mut [u8],
+    plan_out: &mut [u8],
 ) -> Result<(usize, usize), sulgheti::Row> {
     if from == ONE {
         sulgheti::upgrade_plan(list, plan, list_out, plan_out)

@@ -1,4 +1,4 @@
--- Laws of commands, as the functions meet them: a number, a word of bytes, a comment; and the bounds of a command's numbers.
+-- Laws of commands, as the functions meet them: a number, a direction, a comment; and the bounds of a command's numbers.
 -- Assumes nothing.
 use Prim.Native.Nat.{ℕ, _≤_}
 use mathlib.Core.Path.{_≡_, refl, sym, ap, _∙_}
@@ -15,7 +15,9 @@ use Rattle.script.specs.Hex.{isBytes}
 use Rattle.script.specs.Words.{wordsOf}
 use Rattle.script.specs.Ascii.{is}
 use Rattle.store.specs.declared.Request.the-variants as request
-use Rattle.commands.specs.Commands.{ofNumber, ofDepot, ofLitres, ofSize, reads, oneWord, converts, twoWords, threeWords, fourWords, callOf, isComment, ofWords, commandOf, Within}
+use Rattle.commands.specs.Commands.{ofBytes, ofNumber, ofDepot, ofLitres, ofSize, reads, oneWord, directionOf, ofDirection, twoWords, threeWords, fourWords, callOf, isComment, ofWords, commandOf, Within}
+use Rattle.commands.specs.declared.Direction.{Direction}
+use Rattle.commands.specs.declared.Direction.the-variants as direction
 use Rattle.commands.specs.declared.Command.{Command}
 use Rattle.commands.specs.declared.Command.the-variants.{Bad, Table, Call, Written, Make, ListWritten, Table2, Convert, ConvertPlan}
 
@@ -26,6 +28,10 @@ module _ {r : Number} where
 
   pub number-within : (most n : ℕ) (text : List ℕ) → r ≡ number.Value n → r ≡ numberOf most text → n ≤ most
   number-within most n text e g = of-within most n text (sym g ∙ e)
+
+-- r is the direction that was read
+pub direction-is : {r v x : Direction} (f : Bool → Command) → r ≡ v → r ≡ x → ofDirection v f ≡ ofDirection x f
+direction-is f e g = ap (λ (y : Direction). ofDirection y f) (sym e ∙ g)
 
 pub comment-yes : (w : List ℕ) → (length w ≡ 0 → ⊥) → getD w 0 0 ≡ 35 → isComment w ≡ true
 comment-yes [] h e = absurd (h refl)
@@ -57,6 +63,10 @@ module _ {most : ℕ} where
   within-number : (f : ℕ → Command) (top : ℕ) (text : List ℕ) → ((n : ℕ) → n ≤ top → Fine most (f n)) → Fine most (ofNumber (numberOf top text) f)
   within-number f top text h = value (numberOf top text) f top text refl h
 
+  within-direction : (x : Direction) (f : Bool → Command) → ((back : Bool) → Fine most (f back)) → Fine most (ofDirection x f)
+  within-direction (direction.Back back) f h = h back
+  within-direction direction.None f h = bad
+
 within-reads : (most : ℕ) (name a : List ℕ) → Fine most (reads name a)
 unfolding reads
 within-reads most name a =
@@ -76,13 +86,6 @@ within-one most name a =
     (either (is name "propose") (either (isBytes a) (fine tt) bad)
     (within-reads most name a))))
 
-within-converts : (most : ℕ) (name a b : List ℕ) → Fine most (converts name a b)
-unfolding converts
-within-converts most name a b =
-    either (is name "upgrade") (either (isBytes a) (within-number (λ n. Convert false n) _ b (λ n h. fine h)) bad)
-    (either (is name "downgrade") (either (isBytes a) (within-number (λ n. Convert true n) _ b (λ n h. fine h)) bad)
-    bad)
-
 within-two : (most : ℕ) (name a b : List ℕ) → Fine most (twoWords most name a b)
 unfolding twoWords
 within-two most name a b =
@@ -91,7 +94,8 @@ within-two most name a b =
     (either (is name "difference") (within-number (λ d. ofDepot b (λ e. Call (request.Difference d e))) _ a (λ d h. within-number (λ e. Call (request.Difference d e)) _ b (λ e g. fine tt)))
     (either (is name "check") (either (isBytes a) (either (isBytes b) (fine tt) bad) bad)
     (either (is name "make") (either (isBytes a) (within-number (λ n. Make n) _ b (λ n h. fine h)) bad)
-    (within-converts most name a b))))
+    (within-direction (directionOf name) (λ back. ofBytes a (ofSize b (λ n. Convert back n)))
+    (λ back. either (isBytes a) (within-number (λ n. Convert back n) _ b (λ n h. fine h)) bad)))))
 
 within-three : (most : ℕ) (name a b c : List ℕ) → Fine most (threeWords most name a b c)
 unfolding threeWords
@@ -102,18 +106,13 @@ within-three most name a b c =
     (λ s g. within-number (λ w. Call (request.Add f s w)) _ c (λ w k. fine (omega (arith, k))))))
     bad
 
--- the lengths of two buffers, in either way
-within-lengths : (most : ℕ) (back : Bool) (c d : List ℕ) → Fine most (ofSize c (λ n. ofSize d (λ m. ConvertPlan back n m)))
-within-lengths most back c d =
-    within-number (λ n. ofSize d (λ m. ConvertPlan back n m)) _ c
-    (λ n h. within-number (λ m. ConvertPlan back n m) _ d (λ m g. fine (h, g)))
-
 within-four : (most : ℕ) (name a b c d : List ℕ) → Fine most (fourWords name a b c d)
 unfolding fourWords
 within-four most name a b c d =
-    either (is name "upgrade") (either (isBytes a) (either (isBytes b) (within-lengths most false c d) bad) bad)
-    (either (is name "downgrade") (either (isBytes a) (either (isBytes b) (within-lengths most true c d) bad) bad)
-    bad)
+    within-direction (directionOf name) (λ back. ofBytes a (ofBytes b (ofSize c (λ n. ofSize d (λ m. ConvertPlan back n m)))))
+    (λ back. either (isBytes a) (either (isBytes b)
+    (within-number (λ n. ofSize d (λ m. ConvertPlan back n m)) _ c
+    (λ n h. within-number (λ m. ConvertPlan back n m) _ d (λ m g. fine (h, g)))) bad) bad)
 
 within-call : (most : ℕ) (name : List ℕ) (words : List (List ℕ)) → Fine most (callOf most name words)
 within-call most name [] = bad

@@ -11,6 +11,8 @@ use Rattle.script.specs.declared.Number.{Number}
 use Rattle.script.specs.declared.Number.the-variants as number
 use Rattle.store.specs.declared.Request.the-variants as request
 use Rattle.store.specs.Widths.{Named}
+use Rattle.commands.specs.declared.Direction.{Direction}
+use Rattle.commands.specs.declared.Direction.the-variants as direction
 use Rattle.commands.specs.declared.Command.{Command}
 use Rattle.commands.specs.declared.Command.the-variants.{Blank, Bad, Table, Call, Written, Check, Make, ListWritten, Table2, Convert, ConvertPlan}
 
@@ -71,14 +73,14 @@ oneWord name a =
     (cond (is name "propose") (ofBytes a (Call request.Propose))
     (reads name a))))
 
--- a list between editions, and two words behind its name
-unfoldable pub converts : List ℕ → List ℕ → List ℕ → Command
-converts name a b =
-    -- upgrade LIST LEN
-    cond (is name "upgrade") (ofBytes a (ofSize b (λ n. Convert false n)))
-    -- downgrade LIST LEN
-    (cond (is name "downgrade") (ofBytes a (ofSize b (λ n. Convert true n)))
-    Bad)
+-- `upgrade` goes up and `downgrade` back (true); any other name has no direction
+unfoldable pub directionOf : List ℕ → Direction
+directionOf name = cond (is name "upgrade") (direction.Back false) (cond (is name "downgrade") (direction.Back true) direction.None)
+
+-- the command of a direction
+abbrev pub ofDirection : Direction → (Bool → Command) → Command
+ofDirection (direction.Back back) f = f back
+ofDirection direction.None f = Bad
 
 -- a name and two words behind it
 unfoldable pub twoWords : ℕ → List ℕ → List ℕ → List ℕ → Command
@@ -91,7 +93,8 @@ twoWords most name a b =
     (cond (is name "check") (ofBytes a (ofBytes b Check))
     -- make LIST LEN
     (cond (is name "make") (ofBytes a (ofSize b (λ n. Make n)))
-    (converts name a b))))
+    -- upgrade LIST LEN, downgrade LIST LEN
+    (ofDirection (directionOf name) (λ back. ofBytes a (ofSize b (λ n. Convert back n)))))))
 
 -- a name and three words behind it
 unfoldable pub threeWords : ℕ → List ℕ → List ℕ → List ℕ → List ℕ → Command
@@ -103,11 +106,8 @@ threeWords most name a b c =
 -- a name and four words behind it
 unfoldable pub fourWords : List ℕ → List ℕ → List ℕ → List ℕ → List ℕ → Command
 fourWords name a b c d =
-    -- upgrade LIST PLAN LEN LEN: the first length is that of the list's buffer, the second that of the plan's
-    cond (is name "upgrade") (ofBytes a (ofBytes b (ofSize c (λ n. ofSize d (λ m. ConvertPlan false n m)))))
-    -- downgrade LIST PLAN LEN LEN
-    (cond (is name "downgrade") (ofBytes a (ofBytes b (ofSize c (λ n. ofSize d (λ m. ConvertPlan true n m)))))
-    Bad)
+    -- upgrade LIST PLAN LEN LEN, downgrade LIST PLAN LEN LEN: the first length is that of the list's buffer, the second that of the plan's
+    ofDirection (directionOf name) (λ back. ofBytes a (ofBytes b (ofSize c (λ n. ofSize d (λ m. ConvertPlan back n m)))))
 
 -- a word too many or too few is bad
 abbrev pub callOf : ℕ → List ℕ → List (List ℕ) → Command

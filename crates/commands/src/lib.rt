@@ -5,7 +5,7 @@ ghost use mathlib.Core.Path.{_≡_};
 ghost use mathlib.Core.List.{_∷_};
 ghost use Rattle.script.specs.Decimal.{numberOf};
 ghost use Rattle.script.specs.Words.{wordsOf};
-ghost use Rattle.commands.specs.Commands.{ofBytes, ofSite, ofDepot, ofLitres, ofThreshold, ofPlaces, ofSize, reads, oneWord, converts, twoWords, threeWords, fourWords, callOf, commandOf};
+ghost use Rattle.commands.specs.Commands.{ofBytes, ofSite, ofDepot, ofLitres, ofThreshold, ofPlaces, ofSize, reads, oneWord, directionOf, twoWords, threeWords, fourWords, callOf, commandOf};
 ghost use Rattle.commands.specs.declared.Command.the-variants.{Table, Call, Written, Check, Make, ListWritten, Table2, Convert, ConvertPlan};
 ghost use Rattle.store.specs.declared.Request.the-variants.{Share, Depot, Change, Difference, Add, AtLeast};
 
@@ -23,6 +23,12 @@ pub enum Command {
     Table2(usize),
     Convert(bool, usize),
     ConvertPlan(bool, usize, usize),
+}
+
+// The direction between editions that a name stands for: back where the flag is true. Other names have none.
+enum Direction {
+    Back(bool),
+    None,
 }
 
 // The most places of a table.
@@ -213,17 +219,17 @@ fn convert(back: bool, len: &[u8]) -> Command
     }
 }
 
-// The list between editions, by its name and two words behind it.
-fn converts(name: &[u8], a: &[u8], b: &[u8]) -> Command
-    ensures { λ r. ⌜ r ≡ converts (now (name .entry)) (now (a .entry)) (now (b .entry)) ⌝ }
+// The direction of a name.
+fn direction_of(name: &[u8]) -> Direction
+    ensures { λ r. ⌜ r ≡ directionOf (now (name .entry)) ⌝ }
 {
     if check::same(name, b"upgrade") {
-        return given(a, convert(false, b));
+        return Direction::Back(false);
     }
     if check::same(name, b"downgrade") {
-        return given(a, convert(true, b));
+        return Direction::Back(true);
     }
-    Command::Bad
+    Direction::None
 }
 
 // The call of a name with two words behind it.
@@ -242,7 +248,10 @@ fn two_words(name: &[u8], a: &[u8], b: &[u8], most: u32) -> Command
     if check::same(name, b"make") {
         return given(a, make(b));
     }
-    converts(name, a, b)
+    let Direction::Back(back) = direction_of(name) else {
+        return Command::Bad;
+    };
+    given(a, convert(back, b))
 }
 
 // add FIRST SECOND LITRES
@@ -288,13 +297,10 @@ fn convert_plan(back: bool, len: &[u8], other: &[u8]) -> Command
 fn four_words(name: &[u8], a: &[u8], b: &[u8], c: &[u8], d: &[u8]) -> Command
     ensures { λ r. ⌜ r ≡ fourWords (now (name .entry)) (now (a .entry)) (now (b .entry)) (now (c .entry)) (now (d .entry)) ⌝ }
 {
-    if check::same(name, b"upgrade") {
-        return given(a, given(b, convert_plan(false, c, d)));
-    }
-    if check::same(name, b"downgrade") {
-        return given(a, given(b, convert_plan(true, c, d)));
-    }
-    Command::Bad
+    let Direction::Back(back) = direction_of(name) else {
+        return Command::Bad;
+    };
+    given(a, given(b, convert_plan(back, c, d)))
 }
 
 // The call of a name, three words, and the words of what stands behind them.

@@ -51,7 +51,8 @@ ghost use Rattle.io.specs.Counts.{Counts};
 ghost use Rattle.commands.specs.Commands.{Within};
 ghost use Rattle.store.specs.Widths.{Named};
 ghost use Rattle.layout.specs.Layout.{storeSize};
-ghost use Rattle.records.specs.Files.{WrittenOf, WrittenBoth};
+ghost use Rattle.records.specs.Write.{WrittenOf};
+ghost use Rattle.records.specs.Files.{WrittenBoth};
 ghost use Rattle.converter.specs.Convert.{way, convertList, convertPlan};
 ghost use Rattle.console.specs.Editions.{editionAt};
 
@@ -236,7 +237,7 @@ fn run_convert(args: &[u8], back: bool, len: usize)
 }
 
 // Converts a list and its plan, back if `back` is true and else up.
-fn convert_both(back: bool, list: &[u8], plan: &[u8], out: &mut [u8], other: &mut [u8]) -> WroteBoth
+fn convert_plan(back: bool, list: &[u8], plan: &[u8], out: &mut [u8], other: &mut [u8]) -> WroteBoth
     ensures { λ r. ⌜ WrittenBoth (convertPlan (way back) (now (list .entry)) (now (plan .entry)) (now (out .entry)) (now (other .entry))) (now (out .entry)) (now (other .entry)) r (now (out .exit)) (now (other .exit)) ⌝ }
 {
     if back {
@@ -246,8 +247,8 @@ fn convert_both(back: bool, list: &[u8], plan: &[u8], out: &mut [u8], other: &mu
 }
 
 // Converts a list and its plan in two buffers, and prints the answer and both buffers.
-fn both_converted_in(back: bool, list: &[u8], plan: &[u8], out: &mut [u8], other: &mut [u8]) {
-    print_wrote_both(convert_both(back, list, plan, out, other));
+fn plan_converted_in(back: bool, list: &[u8], plan: &[u8], out: &mut [u8], other: &mut [u8]) {
+    print_wrote_both(convert_plan(back, list, plan, out, other));
     print_buffer(out);
     print_buffer(other);
     end_answer();
@@ -263,7 +264,7 @@ fn run_convert_plan(args: &[u8], back: bool, first: usize, second: usize)
     let m = script::decode(script::word(script::rest(args)), &mut b);
     let mut out = [0xA5u8; 8192];
     let mut other = [0xA5u8; 8192];
-    both_converted_in(
+    plan_converted_in(
         back,
         &a[..n],
         &b[..m],

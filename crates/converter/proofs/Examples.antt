@@ -1,8 +1,6 @@
 -- The converters' definition on T and on sites at the edge of what goes back, computed: what is written, and which row refuses first. Assumes nothing.
 use mathlib.Core.Path.{_≡_, refl}
-use mathlib.Core.List.{List, [], flatMap}
-use Prim.Native.Nat.{ℕ}
-use lib.ListN.{replicate}
+use mathlib.Core.List.{[], flatMap}
 use Rattle.sets.specs.Sum.{sum, all, any}
 use Rattle.sets.specs.Set.{has, weigh}
 use Rattle.density.specs.Network.{network, size}
@@ -15,11 +13,7 @@ use Rattle.records.specs.Format.{readList, readPlan}
 use Rattle.records.specs.Write.{listBytes, planBytes}
 use Rattle.records.specs.Samples.{listT, planT, listBig, planBig}
 use Rattle.converter.specs.Convert.{upgrade, downgrade, outside, convertList, convertPlan}
-use Rattle.converter.specs.Examples.{listT2, planT2, unevenT2, list65535, list65535-2, list65536-2, list65536-64}
-
--- a buffer of so many bytes
-abbrev room : ℕ → List ℕ
-room n = replicate n 0
+use Rattle.converter.specs.Examples.{room, listT2, planT2, unevenT2, list65535, list65535-2, list65536-2, list65536-64}
 
 -- T with its plan, there and back, in buffers that just have room; "row 20 comes last and covers a buffer too short for what is converted, the list's first"; "then the plan by rows 7 to 16",
 -- here row 15, before row 20
@@ -32,16 +26,16 @@ unfolding outside readList readPlan listBytes planBytes flatMap le value records
 T-converted = (refl, refl, refl, refl, refl, refl, refl)
 
 -- "Each way takes one edition only, and row 1 or row 7 refuses the other"
-pub other-edition : (convertList upgrade listT2 [] ≡ refused 1) × (convertList downgrade listT [] ≡ refused 1)
+pub T-own-edition : (convertList upgrade listT2 [] ≡ refused 1) × (convertList downgrade listT [] ≡ refused 1)
     × (convertPlan upgrade listT planT2 [] [] ≡ refused 7) × (convertPlan downgrade listT2 planT [] [] ≡ refused 7)
 unfolding outside readList readPlan listBytes flatMap le value records any firstRow
-other-edition = (refl, refl, refl, refl)
+T-own-edition = (refl, refl, refl, refl)
 
 -- "21, going back, if a site's litres are outside 1 to 65,535"
-pub edge : (convertList downgrade list65535-2 (room 10) ≡ passed list65535) × (convertList upgrade list65535 (room 12) ≡ passed list65535-2)
+pub row-21-edge : (convertList downgrade list65535-2 (room 10) ≡ passed list65535) × (convertList upgrade list65535 (room 12) ≡ passed list65535-2)
     × (convertList downgrade list65536-2 (room 10) ≡ refused 21) × (convertList downgrade listBig (room 10) ≡ refused 21)
 unfolding outside readList listBytes flatMap le value records any firstRow
-edge = (refl, refl, refl, refl)
+row-21-edge = (refl, refl, refl, refl)
 
 -- "after all rows of the list, before the plan is read": row 5 of the list goes before it, row 7 of the plan and row 20 behind it
 pub row-21-between : (convertPlan downgrade list65536-64 planBig [] [] ≡ refused 5) × (convertPlan downgrade list65536-2 [] [] [] ≡ refused 21)

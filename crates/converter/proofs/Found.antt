@@ -25,12 +25,11 @@ use Rattle.records.specs.Values.{listing, Plan, planIn}
 use Rattle.records.specs.Outcome.{Outcome, refused, passed, gate, bind}
 use Rattle.records.specs.Answer.{listRead, planArray, planRead}
 use Rattle.records.specs.Format.{readList}
-use Rattle.records.specs.Write.{listBytes, Written}
-use Rattle.records.specs.Files.{WrittenOf, files, fittedBoth, WrittenBoth}
+use Rattle.records.specs.Write.{listBytes, WrittenOf, Written}
+use Rattle.records.specs.Files.{files, fittedBoth, WrittenBoth}
 use Rattle.records.proofs.Outcomes.{clear}
 use Rattle.records.proofs.RoundTrip.{list-few}
 use Rattle.records.proofs.Answers.{listing-array, plan-counted, plan-array, list-is, list-sized, array-few, array-range, list-refused-by, plan-refused-by}
-use Rattle.records.proofs.Files.{written-of}
 use Rattle.judge.specs.Check.{judgedFor}
 use Rattle.judge.proofs.Truth.{judged-true}
 use Rattle.converter.specs.declared.Way.{Way}
@@ -49,10 +48,10 @@ abbrev tried : Bool → Outcome Listing → Outcome Listing
 tried back o = bind o (λ (l : Listing). gate (row 21 (back && outside l) ∷ []) l)
 
 -- what is read is taken unless row 21 applies; nothing was read where rows 1 to 6 refuse, so row 21 does not apply
-found : (back : Bool) (o : Outcome Listing) → (back && outside (listing (listRead o .list))) ≡ false → listRead o ≡ listRead (tried back o)
+finds : (back : Bool) (o : Outcome Listing) → (back && outside (listing (listRead o .list))) ≡ false → listRead o ≡ listRead (tried back o)
 unfolding firstRow
-found back (refused n) h = refl
-found back (passed l) h =
+finds back (refused n) h = refl
+finds back (passed l) h =
     let t : (back && outside l) ≡ false = subst (λ (k : Listing). (back && outside k) ≡ false) (listing-array l) h in
     rw t refl
 
@@ -72,14 +71,14 @@ module _ (w : Way) (s : List ℕ) {x : ListRead} (is : x ≡ listRead (readList 
       by-read (passed l) r = list-few (w .from) 512 s r .0
 
   pub goes-up : w .back ≡ false → x ≡ listRead (listFor w s)
-  goes-up h = is ∙ found (w .back) (readList (w .from) 512 s) (rw h refl)
+  goes-up h = is ∙ finds (w .back) (readList (w .from) 512 s) (rw h refl)
 
   module _ (back : w .back ≡ true) {t : Bool} (test : t ≡ outside (listing (x .list))) where
     tested : outside (listing (listRead (readList (w .from) 512 s) .list)) ≡ t
     tested = ap (λ (y : ListRead). outside (listing (y .list))) (sym is) ∙ sym test
 
     pub goes-down : t ≡ false → x ≡ listRead (listFor w s)
-    goes-down h = is ∙ found (w .back) (readList (w .from) 512 s) (rw (back, tested, h) refl)
+    goes-down h = is ∙ finds (w .back) (readList (w .from) 512 s) (rw (back, tested, h) refl)
 
     pub row-21 : t ≡ true → {y : ListRead} → y ≡ listRead (refused 21) → y ≡ listRead (listFor w s)
     row-21 h k = k ∙ turned-back (readList (w .from) 512 s) (tested ∙ h) ∙ ap (λ (b : Bool). listRead (tried b (readList (w .from) 512 s))) (sym back)
@@ -103,8 +102,8 @@ module _ (w : Way) (s : List ℕ) {x : ListRead} (is : x ≡ listRead (listFor w
   pub list-refuses : {n : ℕ} (out : List ℕ) → x .answer ≡ read.Refused n → WrittenOf (convertList w s out) out (wrote.Refused n) out
   list-refuses out h = rw (refused-is h) (record { answer = refl; buffer = refl })
 
-  pub pair-refuses : {n : ℕ} (plan out other : List ℕ) → x .answer ≡ read.Refused n → WrittenBoth (convertPlan w s plan out other) out other (both.Refused n) out other
-  pair-refuses plan out other h = rw (refused-is h) (record { answer = refl; list = refl; plan = refl })
+  pub both-refuses : {n : ℕ} (plan out other : List ℕ) → x .answer ≡ read.Refused n → WrittenBoth (convertPlan w s plan out other) out other (both.Refused n) out other
+  both-refuses plan out other h = rw (refused-is h) (record { answer = refl; list = refl; plan = refl })
 
   module _ {n : ℕ} (count : x .answer ≡ read.Count n) where
     -- a list was taken, and it is the array's
@@ -121,7 +120,7 @@ module _ (w : Way) (s : List ℕ) {x : ListRead} (is : x ≡ listRead (listFor w
     in-range = array-range (listFor w s) is count (w .from) s (λ l h. taken w s h .0)
 
     pub list-done : (out : List ℕ) {r : Wrote} {last : List ℕ} → Written (listBytes (w .to) (listing (x .list))) out r last → WrittenOf (convertList w s out) out r last
-    list-done out v = rw took (written-of (listBytes (w .to) (listing (x .list))) out v)
+    list-done out v = rw took v
 
     -- ---- and the plan's
     module _ (plan out other : List ℕ) {y : PlanRead} (judged : y ≡ planRead (judgedFor (w .from) (listing (x .list)) plan)) where
@@ -145,9 +144,9 @@ module _ (w : Way) (s : List ℕ) {x : ListRead} (is : x ≡ listRead (listFor w
             let t = judged-true (w .from) (listing (x .list)) in-range plan (got .0) bytes (got .1) in
             ap₂ planIn (got .2) (sym each ∙ sym (t .layout .each)) ∙ plan-array (got .0)
 
-        pub pair-done : {r : WroteBoth} {last rest : List ℕ}
+        pub both-done : {r : WroteBoth} {last rest : List ℕ}
             → WrittenBoth (fittedBoth (files (w .to) (listing (x .list)) (planIn (y .plan) (x .list .count))) out other) out other r last rest
             → WrittenBoth (convertPlan w s plan out other) out other r last rest
-        pair-done {r} {last} {rest} v =
+        both-done {r} {last} {rest} v =
             rw (took, got .1)
             (subst (λ (p : Plan). WrittenBoth (fittedBoth (files (w .to) (listing (x .list)) p) out other) out other r last rest) plan-is v)

@@ -1,13 +1,12 @@
 -- Document 02, d: what is converted reads as the same figures, passes exactly if it passed, and comes back as the same bytes. One argument for both ways. Assumes nothing.
 use mathlib.Core.Path.{_≡_, refl, sym, ap, _∙_, subst}
-use mathlib.Core.Bool.{Bool, true, false, not, _&&_}
-use mathlib.Core.Logic.{⊎-elim}
+use mathlib.Core.Bool.{Bool, true, false, not, _&&_, or-true}
+use mathlib.Core.Logic.{_↔_, ⊎-elim}
 use mathlib.Core.List.{List, [], _∷_}
 use mathlib.Core.Option.{none}
 use Prim.Native.Nat.{ℕ, _*_, _<_, _≤_, _^_}
 use native.Mathlib.Nat.{lt-of-lt-of-le}
 use native.Mathlib.Omega.{arith}
-use borrow.Author.Tests.{eq-eqb, ne-eqb}
 use lib.Dec.{eqb, ltb, lit≤, eqb→eq, ltb→lt, nltb→le, not-T}
 use lib.ListN.{length, take}
 use Rattle.sets.specs.Sum.{any}
@@ -15,26 +14,28 @@ use Rattle.sets.proofs.Sum.{any-at, any-from}
 use Rattle.sets.proofs.Test.{is-false, fails, or-cases, or-r}
 use Rattle.density.specs.Network.{Listing, network, siteAt, noSite}
 use Rattle.density.specs.Plan.{firstShare}
-use Rattle.density.specs.Rows.{row, firstRow, planRows}
+use Rattle.density.specs.Rows.{row, firstRow}
 use Rattle.records.specs.declared.Edition.{Edition}
 use Rattle.records.specs.declared.Wrote.the-variants.{Length}
 use Rattle.records.specs.declared.WroteBoth.the-variants.{Lengths}
-use Rattle.records.specs.Bytes.{Bytes, field}
+use Rattle.records.specs.Bytes.{Bytes}
+use Rattle.records.specs.Record.{wrongMark}
 use Rattle.records.specs.Values.{Plan}
 use Rattle.records.specs.Outcome.{Outcome, refused, passed, gate, bind}
 use Rattle.records.specs.Format.{edition1, edition2, editionOf, readList, readPlan}
-use Rattle.records.specs.Write.{listBytes, planBytes, Marked, Allowed, Good}
-use Rattle.records.specs.Files.{fitted, WrittenOf, Files, files, fittedBoth, WrittenBoth}
+use Rattle.records.specs.Write.{listBytes, planBytes, isShort, fitted, WrittenOf, All, Marked, Allowed, Good}
+use Rattle.records.specs.Files.{Files, files, fittedBoth, WrittenBoth}
 use Rattle.records.proofs.Records.{all-from, all-at}
-use Rattle.records.proofs.Outcomes.{clear}
-use Rattle.records.proofs.RoundTrip.{list-read, list-back, list-again, list-allowed, list-good, list-few, list-depots, laid-read}
+use Rattle.records.proofs.Outcomes.{clear, Proper, Numbered, gate-proper, bind-proper, list-numbered}
+use Rattle.records.proofs.RoundTrip.{list-read, list-back, list-again, list-allowed, list-good, list-few, list-depots, laid-read, plan-read}
 use Rattle.records.proofs.Samples.{marked1, marked2}
-use Rattle.records.proofs.Files.{front-of, fronts-of}
-use Rattle.judge.specs.Check.{judgedFor, judged, checkRow, True}
-use Rattle.judge.proofs.Truth.{judged-true, true-judged}
+use Rattle.records.proofs.Files.{front-of, fronts-of, Room, fitted-proper, both-proper}
+use Rattle.readers.proofs.Editions.{names1, names2}
+use Rattle.judge.specs.Check.{judgedFor, judged, checkRow, checkedRow, True}
+use Rattle.judge.proofs.Truth.{judged-read, judged-numbered, judged-true, true-judged}
 use Rattle.judge.proofs.Widths.{true-over}
 use Rattle.converter.specs.declared.Way.{Way}
-use Rattle.converter.specs.Convert.{upgrade, downgrade, way, isOutside, outside, listFor, convertList, convertPlan, Converted}
+use Rattle.converter.specs.Convert.{upgrade, downgrade, way, isOutside, outside, listFor, convertList, convertPlan, SameList, SamePlan}
 use Rattle.converter.proofs.Found.{taken}
 
 -- ---- the two ways
@@ -56,13 +57,13 @@ fits-down l h i k =
     let small : w ≤ 65535 = nltb→le 65535 w (not-T (ltb 65535 w) (λ t. fails (any test (length (l .sites))) h (any-from test (length (l .sites)) i k (or-r (eqb w 0) (ltb 65535 w) t)))) in
     omega arith
 
--- row 21 refuses no list with the figures of one of edition 1
-comes-back : (s : List ℕ) (l : Listing) → Bytes s → readList edition1 512 s ≡ passed l → outside l ≡ false
+-- row 21 refuses no list whose sites edition 1 has
+comes-back : (l : Listing) → All (Good edition1) (l .sites) → outside l ≡ false
 unfolding outside
-comes-back s l b h =
+comes-back l good =
     is-false (any test (length (l .sites))) (λ t.
     let (i, k, u) = any-at test (length (l .sites)) t in
-    let g = all-at (Good edition1) noSite (l .sites) (list-good edition1 512 s b h) i k in
+    let g = all-at (Good edition1) noSite (l .sites) good i k in
     let w = siteAt l i .litres in
     ⊎-elim (λ z. let e = eqb→eq w 0 z in let p = g .allowed .some in omega arith) (λ z. let a = ltb→lt 65535 w z in let q = g .fits in omega arith)
     (or-cases (eqb w 0) (ltb 65535 w) u))
@@ -87,7 +88,7 @@ fits true s {l} b h = fits-down l (taken downgrade s h .1)
 takes : (back : Bool) (s t : List ℕ) {l : Listing} → Bytes t → readList (way back .from) 512 s ≡ passed l → readList (way back .to) 512 t ≡ passed l → listFor (way back) s ≡ passed l
 unfolding firstRow
 takes false s t b r k = rw r refl
-takes true s t {l} b r k = rw (r, comes-back t l b k) refl
+takes true s t {l} b r k = rw (r, comes-back l (list-good edition1 512 t b k)) refl
 
 -- what a way writes, the other reads
 other-to : (back : Bool) → way (not back) .to ≡ way back .from
@@ -133,27 +134,13 @@ module _ (back : Bool) (s : List ℕ) {l : Listing} (bytes : Bytes s) (took : li
     judged-over = true-judged (way back .to) l (list-depots (way back .from) 512 s read-in) (planBytes (way back .to) p) p (marked back) few true-out
 
 -- the edition that a list's first bytes name is that in which it reads
-named1 : (s : List ℕ) {l : Listing} → readList edition1 512 s ≡ passed l → editionOf s ≡ edition1
-named1 s h = let m = list-read edition1 512 s h .mark in rw (ne-eqb (field s 0 2) 0x324C (λ k. omega arith)) refl
-
-named2 : (s : List ℕ) {l : Listing} → readList edition2 512 s ≡ passed l → editionOf s ≡ edition2
-named2 s h = let m = list-read edition2 512 s h .mark in rw (eq-eqb (field s 0 2) 0x324C m) refl
-
 from-named : (back : Bool) (s : List ℕ) {l : Listing} → readList (way back .from) 512 s ≡ passed l → editionOf s ≡ way back .from
-from-named false s h = named1 s h
-from-named true s h = named2 s h
+from-named false s h = names1 s h
+from-named true s h = names2 s h
 
 to-named : (back : Bool) (s : List ℕ) {l : Listing} → readList (way back .to) 512 s ≡ passed l → editionOf s ≡ way back .to
-to-named false s h = named2 s h
-to-named true s h = named1 s h
-
--- a plan that no row refuses was read
-judged-read : (e : Edition) (l : Listing) (plan : List ℕ) {p : Plan} → judgedFor e l plan ≡ passed p → readPlan e (length (l .sites)) plan ≡ passed p
-judged-read e l plan {p} h = by-read (readPlan e (length (l .sites)) plan) h
-  where
-    by-read : (o : Outcome Plan) → bind o (λ (q : Plan). gate (planRows (network l) (q .groups) (q .shares)) q) ≡ passed p → o ≡ passed p
-    by-read (refused n) h = let z : _≡_ {A = ℕ} 0 1 = cc in absurd (omega arith)
-    by-read (passed q) h = ap passed (clear (planRows (network l) (q .groups) (q .shares)) h .1)
+to-named false s h = names2 s h
+to-named true s h = names1 s h
 
 -- ---- what is found where a length is answered
 
@@ -163,7 +150,7 @@ list-found w s out {x} h = by-list (listFor w s) refl h
     by-list : (o : Outcome Listing) → listFor w s ≡ o → bind o (λ (l : Listing). fitted (listBytes (w .to) l) out) ≡ passed x
         → (l : Listing) × (listFor w s ≡ passed l) × (listBytes (w .to) l ≡ x)
     by-list (refused n) r h = let z : _≡_ {A = ℕ} 0 1 = cc in absurd (omega arith)
-    by-list (passed l) r h = (l, r, clear (row 20 (ltb (length out) (length (listBytes (w .to) l))) ∷ []) h .1)
+    by-list (passed l) r h = (l, r, clear (row 20 (isShort out (listBytes (w .to) l)) ∷ []) h .1)
 
 -- a list was taken, a plan passed with it, and both were written
 record BothFound (w : Way) (s plan : List ℕ) (x : Files) : Type 0 where
@@ -185,7 +172,7 @@ plan-found w s plan out other {x} h = by-list (listFor w s) refl h
           figures = p;
           took = r;
           passes = k;
-          wrote = clear (row 20 (ltb (length out) (length (listBytes (w .to) l))) ∷ row 20 (ltb (length other) (length (planBytes (w .to) p))) ∷ []) h .1;
+          wrote = clear (row 20 (isShort out (listBytes (w .to) l)) ∷ row 20 (isShort other (planBytes (w .to) p)) ∷ []) h .1;
         }
 
     by-list : (o : Outcome Listing) → listFor w s ≡ o
@@ -200,10 +187,14 @@ module _ (back : Bool) (s out last : List ℕ) (n : ℕ) (bytes : Bytes s) (c : 
   found = list-found (way back) s out (front-of (convertList (way back) s out) out last n c)
 
   -- "with the same figures in the same order"
-  pub list-figures : (l : Listing) × (readList (way back .from) 512 s ≡ passed l) × (readList (way back .to) 512 (take n last) ≡ passed l)
+  pub list-figures : SameList (way back) s (take n last)
   list-figures =
       let (l, took, wrote) = found in
-      (l, read-in back s bytes took, subst (λ (t : List ℕ). readList (way back .to) 512 t ≡ passed l) wrote (read-over back s bytes took))
+      record {
+        l = l;
+        given = read-in back s bytes took;
+        written = subst (λ (t : List ℕ). readList (way back .to) 512 t ≡ passed l) wrote (read-over back s bytes took);
+      }
 
   -- "Going there and back restores the bytes": the other way writes what was given, and only a short buffer stops it
   pub list-restored : (out′ : List ℕ) → convertList (way (not back)) (take n last) out′ ≡ fitted s out′
@@ -215,7 +206,7 @@ module _ (back : Bool) (s out last : List ℕ) (n : ℕ) (bytes : Bytes s) (c : 
   pub list-returned : (out′ last′ : List ℕ) (n′ : ℕ) → WrittenOf (convertList (way (not back)) (take n last) out′) out′ (Length n′) last′ → take n′ last′ ≡ s
   list-returned out′ last′ n′ d =
       let h = sym (list-restored out′) ∙ front-of (convertList (way (not back)) (take n last) out′) out′ last′ n′ d in
-      sym (clear (row 20 (ltb (length out′) (length s)) ∷ []) h .1)
+      sym (clear (row 20 (isShort out′ s) ∷ []) h .1)
 
 -- ---- a list with its plan, by the contract of `upgrade_plan` and `downgrade_plan`
 
@@ -234,26 +225,24 @@ module _ (back : Bool) (s plan out other last rest : List ℕ) (n k : ℕ) (byte
   list-over = subst (λ (t : List ℕ). readList (way back .to) 512 t ≡ passed (both-found .sites)) list-wrote (read-over back s bytes (both-found .took))
 
   -- "with the same figures in the same order"
-  pub plan-figures : Converted (way back) s plan (take n last) (take k rest)
+  pub plan-figures : SamePlan (way back) s plan (take n last) (take k rest)
   unfolding network firstShare
   plan-figures =
       let took = both-found .took in
       let before = true-in back s bytes took plan plan-bytes (both-found .passes) in
       let after = true-out back s bytes took plan plan-bytes (both-found .passes) in
       record {
-        sites = both-found .sites;
-        figures = both-found .figures;
-        list-given = read-in back s bytes took;
-        list-written = list-over;
-        plan-given = judged-read (way back .from) (both-found .sites) plan (both-found .passes);
-        plan-written =
+        lists = record { l = both-found .sites; given = read-in back s bytes took; written = list-over };
+        p = both-found .figures;
+        given = judged-read (way back .from) (both-found .sites) plan (both-found .passes);
+        written =
             subst (λ (t : List ℕ). readPlan (way back .to) (length (both-found .sites .sites)) t ≡ passed (both-found .figures)) plan-wrote
             (laid-read (way back .to) (marked back) (both-found .sites) (few back s bytes took) (after .layout));
         fits = λ i h. (before .shares .rules i h .bound, after .layout .fits i (omega (arith, after .layout .each)));
       }
 
   -- "passes after if it passed before": by Check, which goes by the edition that the list's first bytes name
-  pub converted-passes : (checkRow (editionOf s) s plan ≡ none) × (checkRow (editionOf (take n last)) (take n last) (take k rest) ≡ none)
+  pub converted-passes : (checkedRow s plan ≡ none) × (checkedRow (take n last) (take k rest) ≡ none)
   unfolding checkRow
   converted-passes =
       let took = both-found .took in
@@ -284,7 +273,7 @@ module _ (back : Bool) (s plan out other last rest : List ℕ) (n k : ℕ) (byte
       → WrittenBoth (convertPlan (way (not back)) (take n last) (take k rest) out′ other′) out′ other′ (Lengths n′ k′) last′ rest′ → (take n′ last′ ≡ s) × (take k′ rest′ ≡ plan)
   plan-returned out′ other′ last′ rest′ n′ k′ d =
       let h = sym (plan-restored out′ other′) ∙ fronts-of (convertPlan (way (not back)) (take n last) (take k rest) out′ other′) out′ other′ last′ rest′ n′ k′ d in
-      let e = clear (row 20 (ltb (length out′) (length s)) ∷ row 20 (ltb (length other′) (length plan)) ∷ []) h .1 in
+      let e = clear (row 20 (isShort out′ s) ∷ row 20 (isShort other′ plan) ∷ []) h .1 in
       (sym (ap (λ (x : Files). x .list) e), sym (ap (λ (x : Files). x .plan) e))
 
 -- ---- Check
@@ -303,10 +292,57 @@ up-taken s = by-read (readList edition1 512 s)
     by-read (refused n) = refl
     by-read (passed l) = refl
 
+-- "and back where every figure fits": going back, a list of edition 2 is taken exactly if edition 1 has each of its sites
+pub down-taken : (s : List ℕ) {l : Listing} → readList edition2 512 s ≡ passed l → (listFor downgrade s ≡ passed l) ↔ All (Good edition1) (l .sites)
+unfolding firstRow
+down-taken s {l} r = (
+  λ h. all-from (Good edition1) noSite (l .sites)
+      (λ i k. record { allowed = all-at Allowed noSite (l .sites) (list-allowed edition2 512 s r) i k; fits = fits-down l (taken downgrade s h .1) i k }),
+  λ good. rw (r, comes-back l good) refl,
+)
+
 -- Check's answer depends on the figures alone: a list and a plan that read as the same figures in the two editions get the same row, or pass, in both; so one passes exactly if the
 -- other does
 pub same-row : (back : Bool) (s plan t plan′ : List ℕ) {l : Listing} {p : Plan} → readList (way back .from) 512 s ≡ passed l → readList (way back .to) 512 t ≡ passed l
     → readPlan (way back .from) (length (l .sites)) plan ≡ passed p → readPlan (way back .to) (length (l .sites)) plan′ ≡ passed p
-    → checkRow (editionOf s) s plan ≡ checkRow (editionOf t) t plan′
+    → checkedRow s plan ≡ checkedRow t plan′
 unfolding checkRow
 same-row back s plan t plan′ r k u v = rw (from-named back s r, to-named back t k, r, k, u, v) refl
+
+-- ---- "Each way takes one edition only, and row 1 or row 7 refuses the other"
+
+-- what has another mark than that of the edition a way takes
+pub own-lists : (w : Way) (s : List ℕ) → wrongMark (w .from .mark .list) s ≡ true → listFor w s ≡ refused 1
+unfolding readList firstRow
+own-lists w s h = rw (h, or-true (ltb (length s) 4)) refl
+
+pub own-plans : (w : Way) (s plan out other : List ℕ) {l : Listing} → listFor w s ≡ passed l → wrongMark (w .from .mark .plan) plan ≡ true
+    → convertPlan w s plan out other ≡ refused 7
+unfolding readPlan firstRow
+own-plans w s plan out other h m = rw (h, m, or-true (ltb (length plan) 5)) refl
+
+-- so what the other way takes
+pub other-lists : (back : Bool) (s : List ℕ) {l : Listing} → readList (way back .to) 512 s ≡ passed l → listFor (way back) s ≡ refused 1
+other-lists false s r = own-lists upgrade s (rw (list-read edition2 512 s r .mark) refl)
+other-lists true s r = own-lists downgrade s (rw (list-read edition1 512 s r .mark) refl)
+
+pub other-plans : (back : Bool) (s plan out other : List ℕ) {l : Listing} {p : Plan} → listFor (way back) s ≡ passed l
+    → readPlan (way back .to) (length (l .sites)) plan ≡ passed p → convertPlan (way back) s plan out other ≡ refused 7
+other-plans false s plan out other {l} h r = own-plans upgrade s plan out other h (rw (plan-read edition2 (length (l .sites)) plan r .mark) refl)
+other-plans true s plan out other {l} h r = own-plans downgrade s plan out other h (rw (plan-read edition1 (length (l .sites)) plan r .mark) refl)
+
+-- ---- a refusal's number is not 0, and a list that is written has room
+
+taken-numbered : (w : Way) (s : List ℕ) → Numbered (listFor w s)
+taken-numbered w s =
+    bind-proper _ (readList (w .from) 512 s) _ (list-numbered (w .from) 512 s) (λ (l : Listing). gate-proper _ (row 21 (w .back && outside l) ∷ []) tt l (λ c. tt))
+
+pub list-proper : (w : Way) (s out : List ℕ) → Proper (Room out) (convertList w s out)
+list-proper w s out = bind-proper (Room out) (listFor w s) _ (taken-numbered w s) (λ (l : Listing). fitted-proper (listBytes (w .to) l) out)
+
+pub plan-proper : (w : Way) (s plan out other : List ℕ) → Proper (λ (x : Files). Room out (x .list)) (convertPlan w s plan out other)
+plan-proper w s plan out other =
+    bind-proper _ (listFor w s) _ (taken-numbered w s)
+    (λ (l : Listing).
+    bind-proper _ (judgedFor (w .from) l plan) _ (judged-numbered (w .from) l plan)
+    (λ (p : Plan). both-proper (files (w .to) l p) out other))

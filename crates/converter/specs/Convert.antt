@@ -13,8 +13,8 @@ use Rattle.density.specs.Rows.{row}
 use Rattle.records.specs.Values.{Plan}
 use Rattle.records.specs.Outcome.{Outcome, passed, gate, bind}
 use Rattle.records.specs.Format.{edition1, edition2, readList, readPlan}
-use Rattle.records.specs.Write.{listBytes}
-use Rattle.records.specs.Files.{fitted, Files, files, fittedBoth}
+use Rattle.records.specs.Write.{listBytes, fitted}
+use Rattle.records.specs.Files.{Files, files, fittedBoth}
 use Rattle.judge.specs.Check.{judgedFor}
 use Rattle.converter.specs.declared.Way.{Way}
 
@@ -46,20 +46,23 @@ convertList w list out = bind (listFor w list) (λ (l : Listing). fitted (listBy
 -- "A plan is converted along with its list": "The list is read first by all its rows, then the plan by rows 7 to 16; row 20 comes last and covers a buffer too short for
 -- what is converted, the list's first."
 abbrev pub convertPlan : Way → List ℕ → List ℕ → List ℕ → List ℕ → Outcome Files
-convertPlan w list plan out other =
+convertPlan w list plan list-out plan-out =
     bind (listFor w list)
-    (λ (l : Listing). bind (judgedFor (w .from) l plan) (λ (p : Plan). fittedBoth (files (w .to) l p) out other))
+    (λ (l : Listing). bind (judgedFor (w .from) l plan) (λ (p : Plan). fittedBoth (files (w .to) l p) list-out plan-out))
 
 -- ---- what holds of two files before and after
 
--- "with the same figures in the same order": the list and the plan read, in the edition that a way takes and in that it writes, as the same sites, groups and shares; and these
--- fit, since a share is "0 to w × q"
-pub record Converted (w : Way) (list plan list′ plan′ : List ℕ) : Type 0 where
-  pub sites : Listing
-  pub figures : Plan
-  pub list-given : readList (w .from) 512 list ≡ passed sites
-  pub list-written : readList (w .to) 512 list′ ≡ passed sites
-  pub plan-given : readPlan (w .from) (length (sites .sites)) plan ≡ passed figures
-  pub plan-written : readPlan (w .to) (length (sites .sites)) plan′ ≡ passed figures
-  pub fits : (i : ℕ) → i < length (sites .sites)
-      → (firstShare (figures .shares) i ≤ whole (network sites) (figures .groups) i) × (firstShare (figures .shares) i < 256 ^ w .to .share)
+-- "with the same figures in the same order": a list reads as the same sites, in the edition that a way takes and in that it writes
+pub record SameList (w : Way) (list list′ : List ℕ) : Type 0 where
+  pub l : Listing
+  pub given : readList (w .from) 512 list ≡ passed l
+  pub written : readList (w .to) 512 list′ ≡ passed l
+
+-- and a plan for it as the same groups and shares. A share fits the edition that it goes to: row 14 refuses "s above w × q", so s is at most w × q
+pub record SamePlan (w : Way) (list plan list′ plan′ : List ℕ) : Type 0 where
+  pub lists : SameList w list list′
+  pub p : Plan
+  pub given : readPlan (w .from) (length (lists .l .sites)) plan ≡ passed p
+  pub written : readPlan (w .to) (length (lists .l .sites)) plan′ ≡ passed p
+  pub fits : (i : ℕ) → i < length (lists .l .sites)
+      → (firstShare (p .shares) i ≤ whole (network (lists .l)) (p .groups) i) × (firstShare (p .shares) i < 256 ^ w .to .share)

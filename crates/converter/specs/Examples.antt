@@ -1,6 +1,11 @@
 -- Document 01's T and its plan in edition 2, and sites at the edge of what goes back.
 use mathlib.Core.List.{List, [], _∷_}
 use Prim.Native.Nat.{ℕ}
+use lib.ListN.{replicate}
+
+-- a buffer of so many bytes
+abbrev pub room : ℕ → List ℕ
+room n = replicate n 0
 
 -- T: one site between 0 and 1, of 10 litres
 abbrev pub listT2 : List ℕ

@@ -14,7 +14,8 @@ ghost use mathlib.Core.Path.{_≡_};
 ghost use Prim.Native.Nat.{_≤_};
 ghost use Rattle.records.specs.Values.{listing};
 ghost use Rattle.records.specs.Answer.{listRead};
-ghost use Rattle.records.specs.Files.{WrittenOf, WrittenBoth};
+ghost use Rattle.records.specs.Write.{WrittenOf};
+ghost use Rattle.records.specs.Files.{WrittenBoth};
 ghost use Rattle.converter.specs.Convert.{isOutside, outside, upgrade, downgrade, listFor, convertList, convertPlan};
 
 // A way: the edition of what is given, the edition of what is written, and whether it goes back.
@@ -70,7 +71,7 @@ fn any_outside(list: ListArray) -> bool
     false
 }
 
-// The list that a way takes, or the row that refuses it: rows 1 to 6, and going back row 21. A list that is refused by rows 1 to 6 has no site.
+// The list that a way takes, or the row that refuses it: rows 1 to 6, and going back row 21. Where rows 1 to 6 refuse, the list given back has no site, so that row 21 does not apply.
 fn list_for(w: Way, list: &[u8]) -> ListRead
     requires { ⌜ w .from .litres ≤ 4 ⌝ }
     ensures { λ r. ⌜ r ≡ listRead (listFor w (now (list .entry))) ⌝ }

@@ -43,8 +43,8 @@ pub extern "C" fn sulgheti_make(list: &[u8], out: &mut [u8]) -> i64
     wrote_code(maker::make(list, out))
 }
 
-// The four ways between editions, up from edition 1 to edition 2, or back where every figure fits: each answers the length of the list that is written; where a row refuses, its
-// number with a minus sign, and nothing is written.
+// The four converters, up from edition 1 to edition 2, or back where every figure fits: each answers the length of the list that is written; where a row refuses, its number with
+// a minus sign, and nothing is written.
 
 // A list, up.
 #[no_mangle]

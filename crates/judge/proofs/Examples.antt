@@ -20,8 +20,8 @@ use Rattle.records.specs.declared.Edition.{Edition}
 use Rattle.records.specs.Format.{edition1, edition2, readList, readPlan}
 use Rattle.records.specs.Write.{listBytes, planBytes}
 use Rattle.records.specs.Samples.{listT, planT, listBig, planBig}
-use Rattle.judge.specs.Check.{checkRow}
-use Rattle.judge.specs.Examples.{checkedRow, exampleList, examplePlan}
+use Rattle.judge.specs.Check.{checkRow, checkedRow}
+use Rattle.judge.specs.Examples.{exampleList, examplePlan}
 use Rattle.judge.specs.Refusals.{given, refusals, gets, refusals2}
 
 -- for the plan of a starred list, in an edition

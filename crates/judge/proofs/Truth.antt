@@ -1,5 +1,5 @@
 -- Check passes exactly the plans that are true of a list that reads, as bytes, in the list's edition. Assumes nothing.
-use mathlib.Core.Path.{_≡_, refl, sym, subst, _∙_}
+use mathlib.Core.Path.{_≡_, refl, sym, ap, subst, _∙_}
 use mathlib.Core.Logic.{_↔_}
 use mathlib.Core.List.{List}
 use mathlib.Core.Bool.{Bool, true, false, or-true}
@@ -21,6 +21,7 @@ use Rattle.records.specs.Values.{Plan}
 use Rattle.records.specs.Outcome.{Outcome, refused, passed, settle, gate, bind}
 use Rattle.records.specs.Format.{edition1, edition2, editionOf, readList, readPlan}
 use Rattle.records.specs.Write.{LaidOut, Marked}
+use Rattle.records.proofs.Outcomes.{clear, Numbered, gate-proper, bind-proper, plan-numbered}
 use Rattle.records.proofs.RoundTrip.{list-few, list-depots, laid-read, read-laid}
 use Rattle.readers.proofs.Editions.{marks}
 use Rattle.judge.specs.Check.{judgedFor, refusal, checkRow, True, TrueOf}
@@ -28,6 +29,21 @@ use Rattle.judge.specs.Check.{judgedFor, refusal, checkRow, True, TrueOf
 formed : (e : Edition) (l : Listing) (p : Plan) (s : List ℕ) → LaidOut e l p s → Formed (network l) (p .groups) (p .shares)
 unfolding network
 formed e l p s o = record { sets = o .sets; each = o .each }
+
+-- a plan that no row refuses was read
+pub judged-read : (e : Edition) (l : Listing) (plan : List ℕ) {p : Plan} → judgedFor e l plan ≡ passed p → readPlan e (length (l .sites)) plan ≡ passed p
+judged-read e l plan {p} h = by-read (readPlan e (length (l .sites)) plan) h
+  where
+    by-read : (o : Outcome Plan) → bind o (λ (q : Plan). gate (planRows (network l) (q .groups) (q .shares)) q) ≡ passed p → o ≡ passed p
+    by-read (refused n) h = let z : _≡_ {A = ℕ} 0 1 = cc in absurd (omega arith)
+    by-read (passed q) h = ap passed (clear (planRows (network l) (q .groups) (q .shares)) h .1)
+
+-- the number of a row that refuses it is not 0
+pub judged-numbered : (e : Edition) (l : Listing) (plan : List ℕ) → Numbered (judgedFor e l plan)
+unfolding planRows
+judged-numbered e l plan =
+    bind-proper _ (readPlan e (length (l .sites)) plan) _ (plan-numbered e (length (l .sites)) plan)
+    (λ (p : Plan). gate-proper _ (planRows (network l) (p .groups) (p .shares)) tt p (λ c. tt))
 
 -- the plans that no row refuses for a list, and those that are true of it
 module _ (e : Edition) (l : Listing) (range : T (depotsInRange l)) (plan : List ℕ) (p : Plan) where

@@ -11,7 +11,7 @@ use Rattle.density.specs.Rows.{planRows}
 use Rattle.records.specs.declared.Edition.{Edition}
 use Rattle.records.specs.Values.{Plan}
 use Rattle.records.specs.Outcome.{Outcome, refused, passed, gate, bind}
-use Rattle.records.specs.Format.{readList, readPlan}
+use Rattle.records.specs.Format.{editionOf, readList, readPlan}
 use Rattle.records.specs.Write.{LaidOut}
 
 -- rows 7 to 16 of a plan for a list
@@ -30,6 +30,10 @@ refusal (passed a) = none
 
 unfoldable pub checkRow : Edition → List ℕ → List ℕ → Option ℕ
 checkRow e list plan = refusal (judged e list plan)
+
+-- what Check answers, in the edition that the list's first bytes name
+abbrev pub checkedRow : List ℕ → List ℕ → Option ℕ
+checkedRow list plan = checkRow (editionOf list) list plan
 
 -- "A plan is true of a list if it is laid out for it as under Records, its groups are those of the definition, over every set and in that
 -- order, and its shares keep the rules for shares and are level."

@@ -1,16 +1,9 @@
 -- Document 01, "Lists with known plans", as bytes of an edition.
 use mathlib.Core.List.{List}
-use mathlib.Core.Option.{Option}
 use Prim.Native.Nat.{ℕ}
 use Rattle.density.specs.Examples.{Example}
 use Rattle.records.specs.declared.Edition.{Edition}
-use Rattle.records.specs.Format.{editionOf}
 use Rattle.records.specs.Write.{listBytes, planBytes}
-use Rattle.judge.specs.Check.{checkRow}
-
--- what Check answers: the row in the edition that the list names
-abbrev pub checkedRow : List ℕ → List ℕ → Option ℕ
-checkedRow list plan = checkRow (editionOf list) list plan
 
 -- an example's list and plan
 abbrev pub exampleList : Edition → Example → List ℕ

@@ -1,13 +1,12 @@
 -- What Make writes: from the plan made to its bytes; the length answered, and that the plan passes Check. Assumes nothing.
 use mathlib.Core.Path.{_≡_, refl, sym, ap, subst, _∙_}
-use mathlib.Core.Bool.{Bool, true, false, cond}
+use mathlib.Core.Bool.{cond}
 use mathlib.Core.List.{List}
 use mathlib.Core.Option.{none}
 use Prim.Native.Nat.{ℕ, _+_, _*_, _≤_, _^_}
 use native.Mathlib.Omega.{arith}
-use lib.Dec.{T, leb}
-use lib.ListN.{length, take, drop}
-use lib.Seq.{take-at}
+use lib.Dec.{T, ltb}
+use lib.ListN.{length, take}
 use Rattle.density.specs.Network.{Listing, network, noSite, depotsInRange}
 use Rattle.density.specs.Groups.{groupsOf}
 use Rattle.density.specs.Plan.{TruePlan}
@@ -27,9 +26,10 @@ use Rattle.records.specs.Bytes.{Bytes}
 use Rattle.records.specs.Outcome.{Outcome, refused, passed}
 use Rattle.records.specs.Format.{editionOf, shareSize, readList, planOf}
 use Rattle.records.specs.Answer.{listArray, listRead}
-use Rattle.records.specs.Write.{planBytes, onto, Written, LaidOut, Marked, Good}
+use Rattle.records.specs.Write.{planBytes, Written, LaidOut, Marked, Good}
 use Rattle.records.proofs.Records.{all-at}
-use Rattle.records.proofs.Buffers.{length-plan}
+use Rattle.records.proofs.Buffers.{length-plan, answered}
+use Rattle.records.proofs.Files.{written-front}
 use Rattle.records.proofs.Answers.{list-counted, list-refused, listing-array}
 use Rattle.records.proofs.RoundTrip.{list-good, list-depots, list-few, laid-plan, laid-read}
 use Rattle.readers.proofs.Editions.{marks}
@@ -89,24 +89,16 @@ refusal-made e s x n out is row =
 
 -- "answers the plan's length", or row 20 where the buffer is shorter
 pub made-answer : (e : Edition) (s : List ℕ) {l : Listing} (out last : List ℕ) (r : Wrote) → readList e 512 s ≡ passed l → Made e (readList e 512 s) out r last
-    → r ≡ cond (leb (planLength e l) (length out)) (Length (planLength e l)) (Refused 20)
+    → r ≡ cond (ltb (length out) (planLength e l)) (Refused 20) (Length (planLength e l))
 unfolding network
 made-answer e s {l = l} out last r h m =
     let p : PlanWritten e l out r last = subst (λ (o : Outcome Listing). Made e o out r last) h m in
-    subst (λ (n : ℕ). r ≡ cond (leb n (length out)) (Length n) (Refused 20))
+    subst (λ (n : ℕ). r ≡ cond (ltb (length out) n) (Refused 20) (Length n))
     (length-plan e (record { groups = groupsOf (network l); shares = p .shares }) ∙ ap (λ (n : ℕ). 5 + 10 * length (groupsOf (network l)) + shareSize e * n) (each l (p .plan)))
-    (p .written .answer)
+    (answered (planBytes e (record { groups = groupsOf (network l); shares = p .shares })) out (p .written))
   where
     each : (l : Listing) {gs ss : List ℕ} → TruePlan (network l) gs ss → length ss ≡ length (l .sites)
     each l t = t .form .each
-
--- what an answered length says of the buffer
-front : (bytes out last : List ℕ) (n : ℕ) → Written bytes out (Length n) last → take n last ≡ bytes
-front bytes out last n w = split (leb (length bytes) (length out)) (w .answer) (w .buffer)
-  where
-    split : (t : Bool) → Length n ≡ cond t (Length (length bytes)) (Refused 20) → last ≡ cond t (onto bytes out) out → take n last ≡ bytes
-    split false a b = let z : _≡_ {A = ℕ} 0 1 = cc in absurd (omega arith)
-    split true a b = let k : length bytes ≡ n = cc in rw b (take-at bytes (drop (length bytes) out) n k)
 
 -- what is written is laid out as the plan with the groups of the definition
 made-laid : (e : Edition) (s out last : List ℕ) (n : ℕ) {l : Listing} → readList e 512 s ≡ passed l → (p : PlanWritten e l out (Length n) last)
@@ -118,7 +110,7 @@ made-laid e s out last n {l = l} h p =
       sets = p .plan .form .sets;
       each = p .plan .form .each;
       fits = p .fits;
-      bytes-are = front _ out last n (p .written);
+      bytes-are = written-front (planBytes e (record { groups = groupsOf (network l); shares = p .shares })) out last n (p .written);
     }
 
 -- "the plan passes": Check refuses no plan that was made

@@ -111,3 +111,9 @@ module _ (w n : ℕ) (s : List ℕ) (b : Bytes s) (k : w ≤ 4) (few : n ≤ 512
         depots = tests-same w (λ (x : SiteBody). x .depot) wrongDepot recs a (λ r. refl) j;
         litres = tests-same w (λ (x : SiteBody). x .litres) (noLitres w) recs a (λ r. refl) j;
       })
+
+-- ---- at a width that is known
+
+-- what reading all records asks of the bytes
+pub at-width : (w v a k n l : ℕ) → w ≡ v → a + 10 * k + (2 + w) * n ≤ l → a + 10 * k + (2 + v) * n ≤ l
+at-width w v a k n l e h = rw e at h

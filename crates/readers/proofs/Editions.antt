@@ -14,7 +14,7 @@ use Rattle.records.specs.Format.{edition1, edition2, editionOf, readList, readP
 use Rattle.records.specs.Outcome.{passed}
 use Rattle.records.specs.Values.{Plan}
 use Rattle.records.specs.Write.{listBytes, planBytes, All, Good, Marked}
-use Rattle.records.proofs.RoundTrip.{list-back, list-again, plan-again}
+use Rattle.records.proofs.RoundTrip.{list-read, list-back, list-again, plan-again}
 use Rattle.records.proofs.Samples.{marked1, marked2}
 
 -- a list of less than two bytes has no mark
@@ -29,6 +29,13 @@ second-mark s e h = sym (ap (λ (z : Bool). cond z edition2 edition1) (eq-eqb (f
 
 pub other-mark : (s : List ℕ) {x : ℕ} → field s 0 2 ≡ x → (x ≡ 0x324C → ⊥) → edition1 ≡ editionOf s
 other-mark s e h = sym (ap (λ (z : Bool). cond z edition2 edition1) (ne-eqb (field s 0 2) 0x324C (λ k. h (omega (arith, e, k)))))
+
+-- a list that reads in an edition names it
+pub names1 : (s : List ℕ) {l : Listing} → readList edition1 512 s ≡ passed l → editionOf s ≡ edition1
+names1 s h = let m = list-read edition1 512 s h .mark in sym (other-mark s m (λ k. omega arith))
+
+pub names2 : (s : List ℕ) {l : Listing} → readList edition2 512 s ≡ passed l → editionOf s ≡ edition2
+names2 s h = sym (second-mark s (list-read edition2 512 s h .mark) refl)
 
 pub no-mark : (s : List ℕ) → Bytes s → length s < 2 → edition1 ≡ editionOf s
 no-mark s b h = let k = short s b h in other-mark s refl (λ e. omega (arith, k))

@@ -8,6 +8,7 @@ use records::Read;
 use records::SitesRead;
 use records::Step;
 use records::scan;
+use scanner::End;
 ghost use mathlib.Core.Path.{_≡_};
 ghost use Prim.Native.Nat.{ℕ, _<_, _≤_, _+_, _*_, _^_};
 ghost use lib.ListN.{length, getD};
@@ -15,6 +16,7 @@ ghost use Rattle.density.specs.Network.{noSite};
 ghost use Rattle.records.specs.Answer.{sitesRead, listRead};
 ghost use Rattle.records.specs.Outcome.{refused};
 ghost use Rattle.records.specs.Format.{siteSize, readList};
+ghost use Rattle.scanner.specs.Scan.{AllRead};
 ghost use Rattle.readers.specs.Head.{listHead};
 ghost use Rattle.readers.specs.Body.{siteBody, siteBodies};
 
@@ -77,6 +79,28 @@ fn sites_of(bodies: &[u64], marks: bool) -> SitesRead
     }
 }
 
+// The bodies of all records of a list, by one reader. Both editions' widths are constants of their calls, so that the compiled loop does not ask for the width at each record.
+fn bodies(
+    s: &[u8],
+    from: usize,
+    group: u64,
+    groups: &mut [u64],
+    w: usize,
+    mark: u64,
+    out: &mut [u64],
+) -> End
+    requires { ⌜ (w ≤ 8) × (from + 10 * length (now groups) + (2 + w) * length (now out) ≤ length (now s)) ⌝ }
+    ensures { λ r. ⌜ AllRead (now (s .entry)) from group (length (now (groups .entry))) w mark (length (now (out .entry))) r (now (groups .exit)) (now (out .exit)) ⌝ }
+{
+    if w == 4 {
+        return scanner::scan(s, from, group, groups, 4, mark, out);
+    }
+    if w == 6 {
+        return scanner::scan(s, from, group, groups, 6, mark, out);
+    }
+    scanner::scan(s, from, group, groups, w, mark, out)
+}
+
 // The records of `n` sites behind the head of `s`, each read once. A list has no groups.
 pub fn sites(e: Edition, n: usize, s: &[u8]) -> SitesRead
     requires { ⌜ (e .litres ≤ 4) × (n ≤ 512) × (4 + siteSize e * n ≤ length (now s)) ⌝ }
@@ -85,7 +109,7 @@ pub fn sites(e: Edition, n: usize, s: &[u8]) -> SitesRead
     let mut none = [0u64; 0];
     let mut bodies = [0u64; 512];
     let w = 2 + e.litres;
-    let end = scanner::bodies(
+    let end = crate::list::bodies(
         s,
         4,
         e.mark.group,

@@ -5,11 +5,14 @@ use records::PlanRead;
 use records::Read;
 use records::Step;
 use records::scan;
+use scanner::End;
 ghost use mathlib.Core.Path.{_≡_};
-ghost use Prim.Native.Nat.{_≤_};
+ghost use Prim.Native.Nat.{_≤_, _+_, _*_};
+ghost use lib.ListN.{length};
 ghost use Rattle.records.specs.Answer.{planRead};
 ghost use Rattle.records.specs.Outcome.{refused};
 ghost use Rattle.records.specs.Format.{readPlan};
+ghost use Rattle.scanner.specs.Scan.{AllRead};
 ghost use Rattle.readers.specs.Head.{planHead};
 
 // A plan that row `n` refuses.
@@ -52,6 +55,28 @@ fn head(e: Edition, sites: usize, s: &[u8]) -> Read
     Read::Count(count)
 }
 
+// The bodies of all records of a plan, by one reader. Both editions' widths are constants of their calls, so that the compiled loop does not ask for the width at each record.
+fn bodies(
+    s: &[u8],
+    from: usize,
+    group: u64,
+    groups: &mut [u64],
+    w: usize,
+    mark: u64,
+    out: &mut [u64],
+) -> End
+    requires { ⌜ (w ≤ 8) × (from + 10 * length (now groups) + (2 + w) * length (now out) ≤ length (now s)) ⌝ }
+    ensures { λ r. ⌜ AllRead (now (s .entry)) from group (length (now (groups .entry))) w mark (length (now (out .entry))) r (now (groups .exit)) (now (out .exit)) ⌝ }
+{
+    if w == 4 {
+        return scanner::scan(s, from, group, groups, 4, mark, out);
+    }
+    if w == 8 {
+        return scanner::scan(s, from, group, groups, 8, mark, out);
+    }
+    scanner::scan(s, from, group, groups, w, mark, out)
+}
+
 // Reads a plan for a list of `sites` sites: one reader goes through the groups behind the head and on through the shares.
 pub fn read(e: Edition, sites: usize, s: &[u8]) -> PlanRead
     requires { ⌜ (e .share ≤ 8) × (sites ≤ 512) ⌝ }
@@ -63,7 +88,7 @@ pub fn read(e: Edition, sites: usize, s: &[u8]) -> PlanRead
     };
     let mut groups = [0u64; 64];
     let mut shares = [0u64; 512];
-    let end = scanner::bodies(
+    let end = bodies(
         s,
         5,
         e.mark.group,

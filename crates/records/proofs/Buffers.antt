@@ -7,17 +7,19 @@ use lib.Seq.{take-at, drop-append-add, drop-drop, take-suc, length-take-le}
 use native.Mathlib.Nat.{mul-suc, add-assoc, add-sub-cancel-left}
 use native.Mathlib.Numerals.{add-one}
 use native.Mathlib.Omega.{arith}
-use borrow.Author.Tests.{le-leb, lt-leb}
-use lib.Dec.{leb}
-use mathlib.Core.Bool.{true}
+use borrow.Author.Tests.{le-ltb, lt-ltb}
+use mathlib.Core.Bool.{Bool, true, false, cond}
 use borrow.Rule.Slice.PartMut.{putMid}
 use Rattle.records.specs.Bytes.{le}
 use Rattle.records.specs.Values.{Plan}
+use Rattle.records.specs.Outcome.{gate}
 use Rattle.records.specs.Format.{siteSize}
-use Rattle.records.specs.Write.{place, onto, markBytes, siteBytes, listBytes, planBytes, Written}
+use Rattle.records.specs.Write.{place, onto, markBytes, siteBytes, listBytes, planBytes, isShort, wroteOf, Written}
 use Rattle.density.specs.declared.Site.{Site}
 use Rattle.density.specs.Network.{Listing}
+use Rattle.density.specs.Rows.{row, firstRow}
 use Rattle.records.specs.declared.Edition.{Edition}
+use Rattle.records.specs.declared.Wrote.{Wrote}
 use Rattle.records.specs.declared.Wrote.the-variants.{Length, Refused}
 use Rattle.records.proofs.Bytes.{length-le}
 use Rattle.records.proofs.Records.{from-part}
@@ -117,12 +119,25 @@ front-lent {out = out} {at = at} q h f e = front-next q h f (ap (putMid at (leng
 
 -- what a writer answers where the bytes fit, and where they do not
 pub written : {bytes d out : List ℕ} {n : ℕ} → n ≤ length d → Front bytes d out n → Written bytes d (Length n) out
+unfolding firstRow
 written {bytes} {d} h f =
-    let t : leb (length bytes) (length d) ≡ true = le-leb (length bytes) (length d) (omega (arith, f .size)) in
+    let t : isShort d bytes ≡ false = le-ltb (length d) (length bytes) (omega (arith, f .size)) in
     record { answer = rw (t, f .size); buffer = rw t (f .is) }
 
-pub too-short : {bytes d : List ℕ} (n : ℕ) → length bytes ≡ n → length d < n → Written bytes d (Refused 20) d
-too-short n e h = record { answer = rw (e, lt-leb _ _ h); buffer = rw (e, lt-leb _ _ h) }
+pub too-short : (bytes : List ℕ) {d : List ℕ} (n : ℕ) → length bytes ≡ n → length d < n → Written bytes d (Refused 20) d
+unfolding firstRow
+too-short bytes {d} n e h =
+    let t : isShort d bytes ≡ true = lt-ltb (length d) (length bytes) (omega (arith, e)) in
+    record { answer = rw t; buffer = rw t }
+
+-- what it answered: row 20, or the length
+pub answered : (bytes d : List ℕ) {r : Wrote} {out : List ℕ} → Written bytes d r out → r ≡ cond (isShort d bytes) (Refused 20) (Length (length bytes))
+unfolding firstRow
+answered bytes d w = w .answer ∙ by-room (isShort d bytes)
+  where
+    by-room : (t : Bool) → wroteOf (gate (row 20 t ∷ []) bytes) ≡ cond t (Refused 20) (Length (length bytes))
+    by-room true = refl
+    by-room false = refl
 
 -- a plan's bytes, as they are written
 pub plan-front : (e : Edition) (p : Plan) {g n k : ℕ} {d out : List ℕ} → length (p .groups) ≡ g → length (p .shares) ≡ n

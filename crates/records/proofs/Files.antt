@@ -1,64 +1,49 @@
--- What an entry writes into one buffer or two, by what it found: from a writer's own promise, and what an answered length says of a buffer. Assumes nothing.
+-- What is written into one buffer or two, by what an entry found: from the writers' own promises, and what an answered length says of a buffer. Assumes nothing.
 use Prim.Native.Nat.{ℕ, _<_, _≤_}
-use mathlib.Core.Bool.{Bool, true, false}
-use mathlib.Core.List.{List}
+use mathlib.Core.Bool.{true, false}
+use mathlib.Core.List.{List, [], _∷_}
 use mathlib.Core.Path.{_≡_, refl, sym, ap}
 use native.Mathlib.Omega.{arith}
-use borrow.Author.Tests.{lt-ltb, le-ltb, ltb-true, ltb-false, le-leb, lt-leb}
-use lib.Dec.{leb, ltb}
+use borrow.Author.Tests.{lt-ltb, le-ltb, ltb-false}
 use lib.ListN.{length, take, drop}
 use lib.Seq.{take-at}
-use Rattle.density.specs.Rows.{firstRow}
+use Rattle.density.specs.Rows.{row, firstRow}
 use Rattle.records.specs.declared.Wrote.{Wrote}
 use Rattle.records.specs.declared.Wrote.the-variants as one
 use Rattle.records.specs.declared.WroteBoth.the-variants as both
 use Rattle.records.specs.Outcome.{Outcome, refused, passed}
-use Rattle.records.specs.Write.{onto, Written}
-use Rattle.records.specs.Files.{fitted, WrittenOf, Files, fittedBoth, WrittenBoth}
-
--- a writer of these bytes writes them, or row 20 refuses
-pub written-of : (bytes out : List ℕ) {r : Wrote} {last : List ℕ} → Written bytes out r last → WrittenOf (fitted bytes out) out r last
-unfolding firstRow
-written-of bytes out {r} {last} w = by-room (ltb (length out) (length bytes)) refl
-  where
-    by-room : (t : Bool) → ltb (length out) (length bytes) ≡ t → WrittenOf (fitted bytes out) out r last
-    by-room true h =
-        let s : leb (length bytes) (length out) ≡ false = lt-leb (length bytes) (length out) (ltb-true (length out) (length bytes) h) in
-        record { answer = rw h (rw s at (w .answer)); buffer = rw h (rw s at (w .buffer)) }
-    by-room false h =
-        let s : leb (length bytes) (length out) ≡ true = le-leb (length bytes) (length out) (ltb-false (length out) (length bytes) h) in
-        record { answer = rw h (rw s at (w .answer)); buffer = rw h (rw s at (w .buffer)) }
+use Rattle.records.specs.Write.{onto, isShort, fitted, wroteOf, WrittenOf, Written}
+use Rattle.records.specs.Files.{Files, fittedBoth, wroteBothOf, WrittenBoth}
+use Rattle.records.proofs.Outcomes.{clear, Proper, gate-proper}
 
 -- ---- two buffers
 
-module _ (x : Files) (out other : List ℕ) {n k : ℕ} (e : length (x .list) ≡ n) (f : length (x .plan) ≡ k) where
+module _ (x : Files) (list-out plan-out : List ℕ) {n k : ℕ} (e : length (x .list) ≡ n) (f : length (x .plan) ≡ k) where
   -- the list's is too short
-  pub first-short : length out < n → WrittenBoth (fittedBoth x out other) out other (both.Refused 20) out other
+  pub list-short : length list-out < n → WrittenBoth (fittedBoth x list-out plan-out) list-out plan-out (both.Refused 20) list-out plan-out
   unfolding firstRow
-  first-short h =
-      let t : ltb (length out) (length (x .list)) ≡ true = lt-ltb (length out) (length (x .list)) (omega arith) in
+  list-short h =
+      let t : isShort list-out (x .list) ≡ true = lt-ltb (length list-out) (length (x .list)) (omega arith) in
       record { answer = rw t refl; list = rw t refl; plan = rw t refl }
 
-  module _ (h : n ≤ length out) where
-    long : ltb (length out) (length (x .list)) ≡ false
-    long = le-ltb (length out) (length (x .list)) (omega arith)
+  module _ (h : n ≤ length list-out) where
+    list-long : isShort list-out (x .list) ≡ false
+    list-long = le-ltb (length list-out) (length (x .list)) (omega arith)
 
     -- the plan's is
-    pub second-short : length other < k → WrittenBoth (fittedBoth x out other) out other (both.Refused 20) out other
+    pub plan-short : length plan-out < k → WrittenBoth (fittedBoth x list-out plan-out) list-out plan-out (both.Refused 20) list-out plan-out
     unfolding firstRow
-    second-short l =
-        let u : ltb (length other) (length (x .plan)) ≡ true = lt-ltb (length other) (length (x .plan)) (omega arith) in
-        record { answer = rw (long, u) refl; list = rw (long, u) refl; plan = rw (long, u) refl }
+    plan-short l =
+        let u : isShort plan-out (x .plan) ≡ true = lt-ltb (length plan-out) (length (x .plan)) (omega arith) in
+        record { answer = rw (list-long, u) refl; list = rw (list-long, u) refl; plan = rw (list-long, u) refl }
 
     -- both have room, and both are written
-    pub both-written : k ≤ length other → {r s : Wrote} {last rest : List ℕ} → Written (x .list) out r last → Written (x .plan) other s rest
-        → WrittenBoth (fittedBoth x out other) out other (both.Lengths n k) last rest
+    pub both-written : k ≤ length plan-out → {r s : Wrote} {list-last plan-last : List ℕ} → Written (x .list) list-out r list-last → Written (x .plan) plan-out s plan-last
+        → WrittenBoth (fittedBoth x list-out plan-out) list-out plan-out (both.Lengths n k) list-last plan-last
     unfolding firstRow
     both-written l w v =
-        let u : ltb (length other) (length (x .plan)) ≡ false = le-ltb (length other) (length (x .plan)) (omega arith) in
-        let s : leb (length (x .list)) (length out) ≡ true = le-leb (length (x .list)) (length out) (omega arith) in
-        let t : leb (length (x .plan)) (length other) ≡ true = le-leb (length (x .plan)) (length other) (omega arith) in
-        record { answer = rw (long, u, e, f) refl; list = rw (long, u) (rw s at (w .buffer)); plan = rw (long, u) (rw t at (v .buffer)) }
+        let u : isShort plan-out (x .plan) ≡ false = le-ltb (length plan-out) (length (x .plan)) (omega arith) in
+        record { answer = rw (list-long, u, e, f) refl; list = rw (list-long, u) (rw list-long at (w .buffer)); plan = rw (list-long, u) (rw u at (v .buffer)) }
 
 -- ---- what an answered length says
 
@@ -73,11 +58,37 @@ front-of (passed bytes) out last n w =
     let h : length bytes ≡ n = cc in
     ap passed (sym (onto-front bytes out last n h (w .buffer)))
 
-pub fronts-of : (o : Outcome Files) (out other last rest : List ℕ) (n k : ℕ) → WrittenBoth o out other (both.Lengths n k) last rest
-    → o ≡ passed (record { list = take n last; plan = take k rest })
-fronts-of (refused m) out other last rest n k w = let a = w .answer in let z : _≡_ {A = ℕ} 0 1 = cc in absurd (omega arith)
-fronts-of (passed x) out other last rest n k w =
+-- what a writer of these bytes left at the front is these
+pub written-front : (bytes out last : List ℕ) (n : ℕ) → Written bytes out (one.Length n) last → take n last ≡ bytes
+written-front bytes out last n w = sym (clear (row 20 (isShort out bytes) ∷ []) (front-of (fitted bytes out) out last n w) .1)
+
+pub fronts-of : (o : Outcome Files) (list-out plan-out list-last plan-last : List ℕ) (n k : ℕ) → WrittenBoth o list-out plan-out (both.Lengths n k) list-last plan-last
+    → o ≡ passed (record { list = take n list-last; plan = take k plan-last })
+fronts-of (refused m) list-out plan-out list-last plan-last n k w = let a = w .answer in let z : _≡_ {A = ℕ} 0 1 = cc in absurd (omega arith)
+fronts-of (passed x) list-out plan-out list-last plan-last n k w =
     let a = w .answer in
     let h : length (x .list) ≡ n = cc in
     let l : length (x .plan) ≡ k = cc in
-    rw (onto-front (x .list) out last n h (w .list), onto-front (x .plan) other rest k l (w .plan)) refl
+    rw (onto-front (x .list) list-out list-last n h (w .list), onto-front (x .plan) plan-out plan-last k l (w .plan)) refl
+
+-- ---- a length that is answered is one that the buffer has
+
+-- bytes that a buffer has room for
+abbrev pub Room : List ℕ → List ℕ → Type 0
+Room out bytes = length bytes ≤ length out
+
+pub fitted-proper : (bytes out : List ℕ) → Proper (Room out) (fitted bytes out)
+fitted-proper bytes out = gate-proper (Room out) (row 20 (isShort out bytes) ∷ []) tt bytes (λ c. ltb-false (length out) (length bytes) (c .0))
+
+pub both-proper : (x : Files) (list-out plan-out : List ℕ) → Proper (λ (y : Files). Room list-out (y .list)) (fittedBoth x list-out plan-out)
+both-proper x list-out plan-out =
+    gate-proper (λ (y : Files). Room list-out (y .list)) (row 20 (isShort list-out (x .list)) ∷ row 20 (isShort plan-out (x .plan)) ∷ []) tt x
+    (λ c. ltb-false (length list-out) (length (x .list)) (c .0))
+
+pub length-held : (o : Outcome (List ℕ)) (out : List ℕ) {n : ℕ} → Proper (Room out) o → one.Length n ≡ wroteOf o → n ≤ length out
+length-held (refused m) out h e = let z : _≡_ {A = ℕ} 0 1 = cc in absurd (omega arith)
+length-held (passed bytes) out {n} h e = let z : n ≡ length bytes = cc in omega arith
+
+pub lengths-held : (o : Outcome Files) (out : List ℕ) {n k : ℕ} → Proper (λ (x : Files). Room out (x .list)) o → both.Lengths n k ≡ wroteBothOf o → n ≤ length out
+lengths-held (refused m) out h e = let z : _≡_ {A = ℕ} 0 1 = cc in absurd (omega arith)
+lengths-held (passed x) out {n} h e = let z : n ≡ length (x .list) = cc in omega arith

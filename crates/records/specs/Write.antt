@@ -1,14 +1,16 @@
 -- Document 01, "Records and their marks" and row 20: how a list and a plan are written, over an edition, and what a writer leaves in a buffer.
 use Prim.Native.Nat.{ℕ, _+_, _<_, _≤_, _^_}
-use mathlib.Core.Bool.{cond}
+use mathlib.Core.Bool.{Bool}
 use mathlib.Core.List.{List, [], _∷_, _++_, flatMap}
 use mathlib.Core.Path.{_≡_}
 use lib.ListN.{length, take, drop, getD}
-use lib.Dec.{leb}
+use lib.Dec.{ltb}
 use Rattle.density.specs.declared.Site.{Site}
 use Rattle.density.specs.Network.{Listing}
+use Rattle.density.specs.Rows.{row}
 use Rattle.records.specs.Bytes.{le}
 use Rattle.records.specs.Values.{Plan}
+use Rattle.records.specs.Outcome.{Outcome, refused, passed, gate}
 use Rattle.records.specs.declared.Edition.{Edition}
 use Rattle.records.specs.declared.Wrote.{Wrote}
 use Rattle.records.specs.declared.Wrote.the-variants.{Length, Refused}
@@ -39,10 +41,32 @@ place at p d = take at d ++ (p ++ drop (at + length p) d)
 abbrev pub onto : List ℕ → List ℕ → List ℕ
 onto p d = p ++ drop (length p) d
 
--- what a writer of these bytes answers, and what the buffer then holds; row 20, "buffer shorter than the plan" and (document 02, b) "a buffer shorter than the list", leaves it as it was
-pub record Written (bytes out : List ℕ) (r : Wrote) (last : List ℕ) : Type 0 where
-  pub answer : r ≡ cond (leb (length bytes) (length out)) (Length (length bytes)) (Refused 20)
-  pub buffer : last ≡ cond (leb (length bytes) (length out)) (onto bytes out) out
+-- row 20: "buffer shorter than the plan"; document 02, b: "Row 20 also covers a buffer shorter than the list"; d: it "covers a buffer too short for what is converted"
+abbrev pub isShort : List ℕ → List ℕ → Bool
+isShort out bytes = ltb (length out) (length bytes)
+
+-- these bytes, where the buffer has room for them
+abbrev pub fitted : List ℕ → List ℕ → Outcome (List ℕ)
+fitted bytes out = gate (row 20 (isShort out bytes) ∷ []) bytes
+
+-- "every writer answers the length it wrote" (document 02, b): the row that refuses, or the length of the bytes found
+abbrev pub wroteOf : Outcome (List ℕ) → Wrote
+wroteOf (refused n) = Refused n
+wroteOf (passed bytes) = Length (length bytes)
+
+-- the buffer then: as it was, or with the bytes found at its front
+abbrev pub bufferOf : Outcome (List ℕ) → List ℕ → List ℕ
+bufferOf (refused n) out = out
+bufferOf (passed bytes) out = onto bytes out
+
+-- what an entry with one buffer answers and leaves, by what it found
+pub record WrittenOf (o : Outcome (List ℕ)) (out : List ℕ) (r : Wrote) (last : List ℕ) : Type 0 where
+  pub answer : r ≡ wroteOf o
+  pub buffer : last ≡ bufferOf o out
+
+-- and what a writer of these bytes does
+abbrev pub Written : List ℕ → List ℕ → Wrote → List ℕ → Type 0
+Written bytes out r last = WrittenOf (fitted bytes out) out r last
 
 -- the bytes are the plan's, "laid out for" the list "as under Records": at most 64 groups, each a set of depots below 64, and a share for each site
 pub record LaidOut (e : Edition) (l : Listing) (p : Plan) (bytes : List ℕ) : Type 0 where

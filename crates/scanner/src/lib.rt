@@ -87,22 +87,3 @@ pub fn scan(
     r.at = g.at;
     read_records(r, w, mark, g.wrong, out)
 }
-
-// The same. The width of edition 1's sites and shares is a constant of its call, so that the compiled loop does not ask for it at each record.
-pub fn bodies(
-    s: &[u8],
-    from: usize,
-    group: u64,
-    groups: &mut [u64],
-    w: usize,
-    mark: u64,
-    out: &mut [u64],
-) -> End
-    requires { ⌜ (w ≤ 8) × (from + 10 * length (now groups) + (2 + w) * length (now out) ≤ length (now s)) ⌝ }
-    ensures { λ r. ⌜ AllRead (now (s .entry)) from group (length (now (groups .entry))) w mark (length (now (out .entry))) r (now (groups .exit)) (now (out .exit)) ⌝ }
-{
-    if w == 4 {
-        return scan(s, from, group, groups, 4, mark, out);
-    }
-    scan(s, from, group, groups, w, mark, out)
-}

@@ -22,13 +22,13 @@ use Rattle.records.specs.declared.Edition.{Edition}
 use Rattle.records.specs.Bytes.{Bytes}
 use Rattle.records.specs.Values.{Plan}
 use Rattle.records.specs.Format.{edition1, edition2, planOf}
-use Rattle.records.specs.Write.{listBytes, planBytes, onto, All, Marked}
+use Rattle.records.specs.Write.{listBytes, planBytes, onto, isShort, All, Marked}
 use Rattle.records.proofs.Samples.{marked1, marked2}
 use Rattle.store.specs.declared.Request.{Request}
 use Rattle.store.specs.declared.Request.the-variants.{Load, Change, Add, Propose, Share, Depot, Difference, Written, AtLeast, ListWritten}
 use Rattle.store.specs.Calls.{Call, Reply, Told, same, putOut, refused, done, shared, loaded, differ, wrote, reached}
 use Rattle.judge.specs.Check.{True}
-use Rattle.store.specs.Model.{Model, missing, held, count, unlisted, isShort, rowsOf, modelRows, Turn, Turns, Proposes, SaysOf, Says, grantOf, settled, turned}
+use Rattle.store.specs.Model.{Model, missing, held, count, unlisted, rowsOf, modelRows, Turn, Turns, Proposes, SaysOf, Says, grantOf, settled, turned}
 use Rattle.held_state.specs.Held.{State, planHeld, listOf, corrupt}
 use Rattle.store.specs.State.{Done, modelOf, fresh, stays, effectOf, settle, step}
 use Rattle.store.specs.Trace.{Run, start, then, Steps, History, Modelled, AllBytes, lastPassed, planFrom, Question, Exact, SameFigures}
@@ -84,7 +84,7 @@ module _ (s : State) (c : Call) where
       seventeen s c (Difference a d) (planHeld s) 19 (λ e. omega arith) (unlisted (modelOf s) a || unlisted (modelOf s) d) (s .store .held)
   wants Written h =
       seventeen s c Written (planHeld s) 20 (λ e. omega arith)
-      (isShort c (planBytes (s .edition) (held (modelOf s .plan)))) (s .store .held)
+      (isShort (c .buffer) (planBytes (s .edition) (held (modelOf s .plan)))) (s .store .held)
   wants (AtLeast m) h = seventeen s c (AtLeast m) (planHeld s) 18 (λ e. omega arith) false (s .store .held)
   wants ListWritten h = absurd h
 
@@ -273,16 +273,16 @@ module _ {e : Edition} (m : Marked e) {table : List Site} {calls : List Call} {r
 
   list-out : (c : Call) (r : Reply) (s' : State) → c .request ≡ ListWritten → Steps s c r s'
       → let bytes : List ℕ = listBytes e (b .list) in
-      (s' ≡ s) × (r ≡ cond (isShort c bytes) (same c (refused 20)) (putOut c bytes))
+      (s' ≡ s) × (r ≡ cond (isShort (c .buffer) bytes) (same c (refused 20)) (putOut c bytes))
   unfolding firstRow
   list-out c r s' k x =
       let bytes = listBytes (s .edition) (listOf s) in
-      let d : record { after = s'; reply = r } ≡ stays s (cond (isShort c bytes) (same c (refused 20)) (putOut c bytes)) =
+      let d : record { after = s'; reply = r } ≡ stays s (cond (isShort (c .buffer) bytes) (same c (refused 20)) (putOut c bytes)) =
       x
       ∙ ap (λ (o : Option ℕ). settle o s c (effectOf s c (c .request))) (row-zero-off s c (final .holds .intact))
       ∙ ap (λ (q : Request). settle (firstRow (rowsOf b c q)) s c (effectOf s c q)) k
-      ∙ list-by c bytes (isShort c bytes) in
-      let to-e = ap (λ (e : Edition). let bytes = listBytes e (b .list) in cond (isShort c bytes) (same c (refused 20)) (putOut c bytes)) (final .edition) in
+      ∙ list-by c bytes (isShort (c .buffer) bytes) in
+      let to-e = ap (λ (e : Edition). let bytes = listBytes e (b .list) in cond (isShort (c .buffer) bytes) (same c (refused 20)) (putOut c bytes)) (final .edition) in
       (ap (λ (d : Done). d .after) d, ap (λ (d : Done). d .reply) d ∙ to-e)
 
   -- Demand 3: every history is as the model has it.

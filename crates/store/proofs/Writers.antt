@@ -10,11 +10,11 @@ use borrow.Author.Tests.{ltb-false}
 use lib.ListN.{length}
 use Rattle.density.specs.Rows.{firstRow}
 use Rattle.records.specs.Values.{Plan}
-use Rattle.records.specs.Write.{planBytes}
+use Rattle.records.specs.Write.{planBytes, isShort}
 use Rattle.store.specs.declared.Request.{Request}
 use Rattle.store.specs.declared.Request.the-variants.{Load, Change, Add, Propose, Share, Depot, Difference, Written, AtLeast, ListWritten}
 use Rattle.store.specs.Calls.{Call, Reply, putOut, wrote}
-use Rattle.store.specs.Model.{missing, held, isShort}
+use Rattle.store.specs.Model.{missing, held}
 use Rattle.held_state.specs.Held.{State, planHeld, corrupt}
 use Rattle.store.specs.State.{Done, modelOf, triesZero, rowFor, planOut, listOut, Output, stays, effectOf, settle, step}
 
@@ -39,7 +39,7 @@ module _ (s : State) (c : Call) (n : ℕ) where
   abbrev Filled : Reply → List ℕ → Type 0
   Filled r out = (r ≡ putOut c out) × (n ≡ length out) × (n ≤ length (c .buffer))
 
-  written-by : (out : List ℕ) (o : Option ℕ) → (o ≡ none → isShort c out ≡ false) → settle o s c (stays s (putOut c out)) .reply .answer ≡ wrote n
+  written-by : (out : List ℕ) (o : Option ℕ) → (o ≡ none → isShort (c .buffer) out ≡ false) → settle o s c (stays s (putOut c out)) .reply .answer ≡ wrote n
       → Filled (settle o s c (stays s (putOut c out)) .reply) out
   written-by out (some k) f e = let z : _≡_ {A = ℕ} 0 1 = cc in absurd (omega arith)
   written-by out none f e =
@@ -76,10 +76,10 @@ module _ (s : State) (c : Call) (n : ℕ) where
   by-request Written = λ e. (
     planOut s,
     refl,
-    written-by (planOut s) (rowOf Written) (plan-short (corrupt s) (s .store .held) (planHeld s) (λ (p : Plan). isShort c (planBytes (s .edition) p))) e,
+    written-by (planOut s) (rowOf Written) (plan-short (corrupt s) (s .store .held) (planHeld s) (λ (p : Plan). isShort (c .buffer) (planBytes (s .edition) p))) e,
   )
   by-request (AtLeast m) = no-length (AtLeast m) (λ e. let z : _≡_ {A = ℕ} 0 1 = cc in omega arith)
-  by-request ListWritten = λ e. (listOut s, refl, written-by (listOut s) (rowOf ListWritten) (list-short (corrupt s) (isShort c (listOut s))) e)
+  by-request ListWritten = λ e. (listOut s, refl, written-by (listOut s) (rowOf ListWritten) (list-short (corrupt s) (isShort (c .buffer) (listOut s))) e)
 
   -- Document 02, b: "every writer answers the length it wrote".
   pub every-writer : step s c .reply .answer ≡ wrote n

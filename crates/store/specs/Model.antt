@@ -15,7 +15,7 @@ use Rattle.density.specs.Figures.{depotLitres, depotSize, siteWhole, difference
 use Rattle.records.specs.declared.Edition.{Edition}
 use Rattle.records.specs.Values.{Plan}
 use Rattle.records.specs.Format.{listRows, sitesOf, layoutRows, planOf}
-use Rattle.records.specs.Write.{listBytes, planBytes}
+use Rattle.records.specs.Write.{listBytes, planBytes, isShort}
 use Rattle.judge.specs.Check.{True}
 use Rattle.store.specs.declared.Request.{Request}
 use Rattle.store.specs.declared.Request.the-variants.{Load, Change, Add, Propose, Share, Depot, Difference, Written, AtLeast, ListWritten}
@@ -61,10 +61,6 @@ proposalRows e l bytes =
     layoutRows e (length (l .sites)) bytes
     ++ planRows (network l) (planOf e (length (l .sites)) bytes .groups) (planOf e (length (l .sites)) bytes .shares)
 
--- row 20, "buffer shorter than the plan"; document 02, b: "Row 20 also covers a buffer shorter than the list"
-abbrev pub isShort : Call → List ℕ → Bool
-isShort c bytes = ltb (length (c .buffer)) (length bytes)
-
 -- the rows that each call tries
 abbrev pub rowsOf : Model → Call → Request → List Row
 rowsOf b c Load = listRows (b .edition) (b .places) (c .input)
@@ -74,9 +70,9 @@ rowsOf b c Propose = proposalRows (b .edition) (b .list) (c .input)
 rowsOf b c (Share i) = row 17 (missing (b .plan)) ∷ row 18 (leb (count b) i) ∷ []
 rowsOf b c (Depot d) = row 17 (missing (b .plan)) ∷ row 19 (unlisted b d) ∷ []
 rowsOf b c (Difference a d) = row 17 (missing (b .plan)) ∷ row 19 (unlisted b a || unlisted b d) ∷ []
-rowsOf b c Written = row 17 (missing (b .plan)) ∷ row 20 (isShort c (planBytes (b .edition) (held (b .plan)))) ∷ []
+rowsOf b c Written = row 17 (missing (b .plan)) ∷ row 20 (isShort (c .buffer) (planBytes (b .edition) (held (b .plan)))) ∷ []
 rowsOf b c (AtLeast m) = row 17 (missing (b .plan)) ∷ []
-rowsOf b c ListWritten = row 20 (isShort c (listBytes (b .edition) (b .list))) ∷ []
+rowsOf b c ListWritten = row 20 (isShort (c .buffer) (listBytes (b .edition) (b .list))) ∷ []
 
 abbrev pub modelRows : Model → Call → List Row
 modelRows b c = rowsOf b c (c .request)

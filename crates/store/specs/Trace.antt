@@ -18,12 +18,12 @@ use Rattle.records.specs.Bytes.{Bytes}
 use Rattle.records.specs.Values.{Plan}
 use Rattle.records.specs.Outcome.{passed}
 use Rattle.records.specs.Format.{readList, planOf}
-use Rattle.records.specs.Write.{listBytes, onto, All}
+use Rattle.records.specs.Write.{listBytes, onto, isShort, All}
 use Rattle.store.specs.declared.Request.{Request}
 use Rattle.store.specs.declared.Request.the-variants.{Load, Change, Add, Propose, Share, Depot, Difference, Written, AtLeast, ListWritten}
 use Rattle.store.specs.Calls.{Call, Reply, Told, same, putOut, refused, done, shared, loaded, differ, wrote, reached}
 use Rattle.judge.specs.Check.{True}
-use Rattle.store.specs.Model.{Model, emptyModel, count, isShort, Says}
+use Rattle.store.specs.Model.{Model, emptyModel, count, Says}
 use Rattle.held_state.specs.Held.{State}
 use Rattle.store.specs.State.{modelOf, fresh, step}
 
@@ -168,7 +168,7 @@ pub record Exact (e : Edition) (table : List Site) (calls : List Call) (replies 
   -- document 02, b: "the book gives row 20, or its list and the length, and stays as it is"; what is written out is the list held
   pub list-written-out : (c : Call) (r : Reply) (s' : State) → c .request ≡ ListWritten → Steps s c r s'
       → let bytes : List ℕ = listBytes e (modelOf s .list) in
-      (s' ≡ s) × (r ≡ cond (isShort c bytes) (same c (refused 20)) (putOut c bytes))
+      (s' ≡ s) × (r ≡ cond (isShort (c .buffer) bytes) (same c (refused 20)) (putOut c bytes))
 
 -- Document 02, b, at one state.
 pub record ListRoundTrip (s : State) : Type 0 where

@@ -1,25 +1,25 @@
 -- The answers to questions, and to the call for the list written out: each is the step's, at a state that the values stand for. Assumes nothing.
 use mathlib.Core.Path.{_≡_, refl, sym, ap, ap₂, _∙_}
 use mathlib.Core.Bool.{Bool, true, false, cond, not, _||_}
-use mathlib.Core.List.{List}
+use mathlib.Core.List.{List, [], _∷_}
 use mathlib.Core.Option.{none, some}
 use Prim.Native.Nat.{ℕ, _*_}
-use borrow.Author.Tests.{leb-true, leb-false, lt-ltb, le-ltb}
+use borrow.Author.Tests.{leb-false}
 use lib.Dec.{leb}
 use lib.ListN.{length, getD, take}
 use lib.Seq.{getD-take}
 use Rattle.sets.specs.Set.{has, setOf}
 use Rattle.density.specs.Network.{Listing, network}
 use Rattle.density.specs.Plan.{place, groupLitres, groupSize, whole}
-use Rattle.density.specs.Rows.{firstRow}
+use Rattle.density.specs.Rows.{row, firstRow}
 use Rattle.density.specs.Figures.{differenceOf, depotsRead}
 use Rattle.records.specs.declared.Edition.{Edition}
 use Rattle.records.specs.declared.ListArray.{ListArray}
 use Rattle.records.specs.declared.PlanArray.{PlanArray}
 use Rattle.records.specs.Values.{Plan, listing, planIn}
 use Rattle.records.specs.declared.Wrote.{Wrote}
-use Rattle.records.specs.declared.Wrote.the-variants as wrote
-use Rattle.records.specs.Write.{listBytes, planBytes, onto, Written as Writes}
+use Rattle.records.specs.Outcome.{gate}
+use Rattle.records.specs.Write.{listBytes, planBytes, isShort, wroteOf, bufferOf, Written as Writes}
 use Rattle.tables.specs.declared.Form.{Form}
 use Rattle.tables.specs.Tables.{net, groupsIn, lentPlan, Kept}
 use Rattle.held_state.specs.declared.Summary.{Summary}
@@ -32,7 +32,7 @@ use Rattle.store.specs.declared.Request.the-variants.{Load, Change, Add, Propos
 use Rattle.store.specs.declared.Answer.{Answer}
 use Rattle.store.specs.declared.Answer.the-variants as of
 use Rattle.store.specs.Calls.{Call, same, putOut, told, refused}
-use Rattle.store.specs.Model.{Model, isShort}
+use Rattle.store.specs.Model.{Model}
 use Rattle.store.specs.State.{Done, modelOf, triesZero, rowFor, refusal, effectOf, step}
 use Rattle.store.specs.Trace.{Question, ReadsOnly}
 use Rattle.store_calls.specs.Told.{wroteTold}
@@ -85,18 +85,15 @@ module _ (s : State) (c : Call) where
   asked false n a h g = sym (ap (λ (d : Done). d .reply) (granted-step s c h) ∙ g refl)
 
   -- row 20, or the bytes that a writer wrote
-  module _ (bytes : List ℕ) (row : refusal s c ≡ cond (isShort c bytes) (some 20) none) (effect : effectOf s c (c .request) .reply ≡ putOut c bytes) where
-    out-by : (t : Bool) → leb (length bytes) (length (c .buffer)) ≡ t
-        → record { answer = told (wroteTold (cond t (wrote.Length (length bytes)) (wrote.Refused 20))); buffer = cond t (onto bytes (c .buffer)) (c .buffer) } ≡ step s c .reply
-    out-by true u =
-        let l = leb-true (length bytes) (length (c .buffer)) u in
-        sym (ap (λ (d : Done). d .reply) (granted-step s c (row ∙ rw (le-ltb (length (c .buffer)) (length bytes) l))) ∙ effect)
-    out-by false u =
-        let l = leb-false (length bytes) (length (c .buffer)) u in
-        sym (ap (λ (d : Done). d .reply) (refused-step s c 20 (row ∙ rw (lt-ltb (length (c .buffer)) (length bytes) l))))
+  module _ (bytes : List ℕ) (refuses : refusal s c ≡ cond (isShort (c .buffer) bytes) (some 20) none) (effect : effectOf s c (c .request) .reply ≡ putOut c bytes) where
+    out-by : (t : Bool) → isShort (c .buffer) bytes ≡ t
+        → let o = gate (row 20 t ∷ []) bytes in record { answer = told (wroteTold (wroteOf o)); buffer = bufferOf o (c .buffer) } ≡ step s c .reply
+    unfolding firstRow
+    out-by true u = sym (ap (λ (d : Done). d .reply) (refused-step s c 20 (refuses ∙ rw u)))
+    out-by false u = sym (ap (λ (d : Done). d .reply) (granted-step s c (refuses ∙ rw u)) ∙ effect)
 
     out-told : {w : Wrote} {r : Answer} {last : List ℕ} → Writes bytes (c .buffer) w last → r ≡ wroteTold w → record { answer = told r; buffer = last } ≡ step s c .reply
-    out-told w h = rw (h, w .answer, w .buffer) (out-by (leb (length bytes) (length (c .buffer))) refl)
+    out-told w h = rw (h, w .answer, w .buffer) (out-by (isShort (c .buffer) bytes) refl)
 
 -- ---- the list written out, with a plan or without one
 

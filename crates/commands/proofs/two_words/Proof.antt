@@ -1,16 +1,44 @@
 -- `commands::two_words` meets its contract: the names before are none, and this one is the name.
 -- Assumes nothing.
 use borrow.Author.Needs.{needs}
-use mathlib.Core.Path.{ap, _∙_}
+use mathlib.Core.Path.{_≡_, ap, _∙_}
+use mathlib.Core.Bool.{Bool}
 use denote.Ref.{now}
 use Rattle.script.proofs.Words.{same-yes, same-no}
-use Rattle.commands.specs.Commands.{twoWords, ofBytes}
+use Rattle.commands.proofs.Reading.{direction-is}
+use Rattle.commands.specs.Commands.{twoWords, ofBytes, ofSize, directionOf, ofDirection}
+use Rattle.commands.specs.declared.Command.{Command}
+use Rattle.commands.specs.declared.Command.the-variants.{Convert}
 use Rattle.commands.proofs.two_words.Statement.{statement}
 use Rattle.commands.proofs.two_words.Tie as tie
 
 -- the start, from where the first name has been none
 abbrev start : tie.Else1 → tie.Start
 start first = let known = first .before .before .before in known .before .before .before
+
+-- the first name has been none, from where the fourth has
+abbrev first-none : tie.Else4 → tie.Else1
+first-none fourth =
+    let third = fourth .before .before .before in
+    let second = third .before .before .before in
+    second .before .before .before
+
+-- the command, by its direction
+abbrev ofBack : tie.Start → Bool → Command
+ofBack s back = ofBytes (now (s .args .a)) (ofSize (now (s .args .b)) (λ n. Convert back n))
+
+-- the four names are none: the command is that of the direction
+none-named : (fourth : tie.Else4) →
+    let s = start (first-none fourth) in
+    let name = now (s .args .name) in
+    ofDirection (directionOf name) (ofBack s) ≡ twoWords (s .args .most) name (now (s .args .a)) (now (s .args .b))
+unfolding twoWords
+none-named fourth =
+    let third = fourth .before .before .before in
+    let second = third .before .before .before in
+    let first = second .before .before .before in
+    simp
+    (same-no (first .before .same .ensures) (first .if1 .left), same-no (second .before .same2 .ensures) (second .if2 .left), same-no (third .before .same3 .ensures) (third .if3 .left), same-no (fourth .before .same4 .ensures) (fourth .if4 .left))
 
 slice-aggregate-same : tie.Need-slice-aggregate-same
 slice-aggregate-same c = search needs
@@ -89,19 +117,32 @@ returns-4 c =
     (same-no (first .before .same .ensures) (first .if1 .left), same-no (second .before .same2 .ensures) (second .if2 .left), same-no (third .before .same3 .ensures) (third .if3 .left), same-yes (at .same4 .ensures) (named .if4 .taken))
     (c .given3 .ensures ∙ ap (ofBytes (now (start first .args .a))) (c .before .make .ensures))
 
-converts-requires : tie.Need-converts-requires
-converts-requires c κs = search needs
+direction-of-requires : tie.Need-direction-of-requires
+direction-of-requires c κs = search needs
+
+enum-known-back : tie.Need-enum-known-back
+enum-known-back c = search needs
+
+enum-told : tie.Need-enum-told
+enum-told c = search needs
 
 returns-5 : tie.Need-returns-5
-unfolding twoWords
 returns-5 c =
-    let fourth = c .before in
-    let third = fourth .before .before .before in
-    let second = third .before .before .before in
-    let first = second .before .before .before in
-    simp
-    (same-no (first .before .same .ensures) (first .if1 .left), same-no (second .before .same2 .ensures) (second .if2 .left), same-no (third .before .same3 .ensures) (third .if3 .left), same-no (fourth .before .same4 .ensures) (fourth .if4 .left))
-    (c .converts .ensures)
+    let read = c .before .before in
+    direction-is (ofBack (start (first-none (read .before)))) (c .enum-told .given .1) (read .direction-of .ensures) ∙ none-named (read .before)
+
+convert-requires : tie.Need-convert-requires
+convert-requires c κs = search needs
+
+given-requires-4 : tie.Need-given-requires-4
+given-requires-4 c κs = search needs
+
+returns-6 : tie.Need-returns-6
+returns-6 c =
+    let known = c .before .before .before in
+    let read = known .before .before in
+    let s = start (first-none (read .before)) in
+    c .given4 .ensures ∙ ap (ofBytes (now (s .args .a))) (c .before .convert .ensures) ∙ direction-is (ofBack s) (known .back .given .1) (read .direction-of .ensures) ∙ none-named (read .before)
 
 pub two-words-spec : {M : Type 1} → statement M
 two-words-spec =
@@ -125,5 +166,10 @@ two-words-spec =
     make-requires
     given-requires-3
     returns-4
-    converts-requires
-    returns-5)
+    direction-of-requires
+    enum-known-back
+    enum-told
+    returns-5
+    convert-requires
+    given-requires-4
+    returns-6)

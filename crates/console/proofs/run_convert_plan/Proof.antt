@@ -30,29 +30,29 @@ decode-requires-2 c κs = search needs
 array-share-prefix-a : tie.Need-array-share-prefix-a
 array-share-prefix-a c = search needs
 
-slice-aggregate-both-converted-in : tie.Need-slice-aggregate-both-converted-in
-slice-aggregate-both-converted-in c = search needs
+slice-aggregate-plan-converted-in : tie.Need-slice-aggregate-plan-converted-in
+slice-aggregate-plan-converted-in c = search needs
 
 array-share-prefix-b : tie.Need-array-share-prefix-b
 array-share-prefix-b c = search needs
 
-slice-aggregate-both-converted-in-2 : tie.Need-slice-aggregate-both-converted-in-2
-slice-aggregate-both-converted-in-2 c = search needs
+slice-aggregate-plan-converted-in-2 : tie.Need-slice-aggregate-plan-converted-in-2
+slice-aggregate-plan-converted-in-2 c = search needs
 
 array-borrow-prefix-out : tie.Need-array-borrow-prefix-out
 array-borrow-prefix-out c = search needs
 
-slice-aggregate-both-converted-in-3 : tie.Need-slice-aggregate-both-converted-in-3
-slice-aggregate-both-converted-in-3 c = simp (length-take, length-replicate) (omega arith)
+slice-aggregate-plan-converted-in-3 : tie.Need-slice-aggregate-plan-converted-in-3
+slice-aggregate-plan-converted-in-3 c = simp (length-take, length-replicate) (omega arith)
 
 array-borrow-prefix-other : tie.Need-array-borrow-prefix-other
 array-borrow-prefix-other c = search needs
 
-slice-aggregate-both-converted-in-4 : tie.Need-slice-aggregate-both-converted-in-4
-slice-aggregate-both-converted-in-4 c = simp (length-take, length-replicate) (omega arith)
+slice-aggregate-plan-converted-in-4 : tie.Need-slice-aggregate-plan-converted-in-4
+slice-aggregate-plan-converted-in-4 c = simp (length-take, length-replicate) (omega arith)
 
-both-converted-in-requires : tie.Need-both-converted-in-requires
-both-converted-in-requires c κs = search needs
+plan-converted-in-requires : tie.Need-plan-converted-in-requires
+plan-converted-in-requires c κs = search needs
 
 returns : tie.Need-returns
 returns c = search needs
@@ -69,12 +69,12 @@ run-convert-plan-spec =
     slice-aggregate-decode-2
     decode-requires-2
     array-share-prefix-a
-    slice-aggregate-both-converted-in
+    slice-aggregate-plan-converted-in
     array-share-prefix-b
-    slice-aggregate-both-converted-in-2
+    slice-aggregate-plan-converted-in-2
     array-borrow-prefix-out
-    slice-aggregate-both-converted-in-3
+    slice-aggregate-plan-converted-in-3
     array-borrow-prefix-other
-    slice-aggregate-both-converted-in-4
-    both-converted-in-requires
+    slice-aggregate-plan-converted-in-4
+    plan-converted-in-requires
     returns)

@@ -24,7 +24,7 @@ abbrev μ-loop : tie.MeasureT-loop
 -- the list's sites are as many as it counts
 each : (s : tie.Start Inv-loop μ-loop) → length (listing (s .args .t1) .sites) ≡ s .args .t1 .count
 each s =
-    let wide : length (s .args .t1 .sites) ≡ 512 = simp length-map at (s .good .0 .1 .1 .1 .0 .1 .0 .1) in
+    let places : length (s .args .t1 .sites) ≡ 512 = simp length-map at (s .good .0 .1 .1 .1 .0 .1 .0 .1) in
     length-take-le (s .args .t1 .count) (s .args .t1 .sites) (omega (arith, s .pre))
 
 loop-holds : tie.Need-loop-holds Inv-loop μ-loop

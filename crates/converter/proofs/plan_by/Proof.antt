@@ -1,6 +1,6 @@
 -- `converter::plan_by` meets its contract. Assumes nothing.
 use borrow.Author.Needs.{needs}
-use Rattle.converter.proofs.Found.{pair-refuses, few, in-range, plan-refuses, few-groups, pair-done}
+use Rattle.converter.proofs.Found.{both-refuses, few, in-range, plan-refuses, few-groups, both-done}
 use Rattle.converter.proofs.plan_by.Statement.{statement}
 use Rattle.converter.proofs.plan_by.Tie as tie
 
@@ -16,7 +16,7 @@ returns c =
     let read = told .before .before in
     let known = read .before .before .before in
     let a = known .before .before .args in
-    pair-refuses (a .w) (a .list .now) (read .list-for .ensures) (a .plan .now) (a .out .now) (a .other .now) (told .answer .given .1)
+    both-refuses (a .w) (a .list .now) (read .list-for .ensures) (a .plan .now) (a .out .now) (a .other .now) (told .answer .given .1)
 
 enum-told : tie.Need-enum-told
 enum-told c = search needs
@@ -78,7 +78,7 @@ returns-3 c =
     let read = told .before .before in
     let known = read .before .before .before in
     let a = known .before .before .args in
-    pair-done (a .w) (a .list .now) (read .list-for .ensures) (told .enum-told .given .1) (a .plan .now) (a .out .now) (a .other .now) (judged .plan-for .ensures)
+    both-done (a .w) (a .list .now) (read .list-for .ensures) (told .enum-told .given .1) (a .plan .now) (a .out .now) (a .other .now) (judged .plan-for .ensures)
     (λ i. known .shared-slice-known2 .given i .fits) (plan .enum-told2 .given .1) (wrote .both .ensures)
 
 pub plan-by-spec : {M : Type 1} → statement M

@@ -10,7 +10,7 @@ use Rattle.records.specs.Values.{listing, planIn}
 use Rattle.records.specs.Write.{listBytes, planBytes}
 use Rattle.records.specs.Files.{Files, files}
 use Rattle.records.proofs.Buffers.{length-list, length-plan}
-use Rattle.records.proofs.Files.{first-short, second-short, both-written}
+use Rattle.records.proofs.Files.{list-short, plan-short, both-written}
 use borrow.Author.Needs.{needs}
 use Rattle.writers.proofs.both.Statement.{statement}
 use Rattle.writers.proofs.both.Tie as tie
@@ -20,13 +20,13 @@ abbrev given : tie.Start → Files
 given s = files (s .args .e) (listing (s .args .l)) (planIn (s .args .p) (s .args .l .count))
 
 -- the lengths of it
-first-length : (s : tie.Start) → length (listBytes (s .args .e) (listing (s .args .l))) ≡ 4 + (4 + s .args .e .litres) * s .args .l .count
-first-length s =
+list-length : (s : tie.Start) → length (listBytes (s .args .e) (listing (s .args .l))) ≡ 4 + (4 + s .args .e .litres) * s .args .l .count
+list-length s =
     let wide : length (s .args .l .sites) ≡ 512 = simp length-map at (s .good .1 .0 .1 .1 .1 .0 .1 .0 .1) in
     length-list (s .args .e) (listing (s .args .l)) ∙ ap (λ (k : ℕ). 4 + siteSize (s .args .e) * k) (length-take-le (s .args .l .count) (s .args .l .sites) (omega (arith, s .pre .2)))
 
-second-length : (s : tie.Start) → length (planBytes (s .args .e) (planIn (s .args .p) (s .args .l .count))) ≡ 5 + 10 * s .args .p .count + (2 + s .args .e .share) * s .args .l .count
-second-length s =
+plan-length : (s : tie.Start) → length (planBytes (s .args .e) (planIn (s .args .p) (s .args .l .count))) ≡ 5 + 10 * s .args .p .count + (2 + s .args .e .share) * s .args .l .count
+plan-length s =
     let deep : length (s .args .p .groups) ≡ 64 = simp length-map at (s .good .1 .1 .0 .1 .1 .1 .0 .1 .0 .1) in
     let wide : length (s .args .p .shares) ≡ 512 = simp length-map at (s .good .1 .1 .0 .1 .1 .1 .1 .0 .1 .0 .1) in
     length-plan (s .args .e) (planIn (s .args .p) (s .args .l .count))
@@ -73,14 +73,14 @@ returns : tie.Need-returns
 returns c =
     let second = c .before .before .before in
     let s = second .before .before .before in
-    first-short (given s) _ _ (first-length s) (second-length s) (c .if1 .taken)
+    list-short (given s) _ _ (list-length s) (plan-length s) (c .if1 .taken)
 
 returns-2 : tie.Need-returns-2
 returns-2 c =
     let long = c .before in
     let second = long .before .before .before in
     let s = second .before .before .before in
-    second-short (given s) _ _ (first-length s) (second-length s) (long .if1 .left) (c .if2 .taken)
+    plan-short (given s) _ _ (list-length s) (plan-length s) (long .if1 .left) (c .if2 .taken)
 
 list-requires : tie.Need-list-requires
 list-requires c κs = search needs
@@ -103,7 +103,7 @@ returns-3 c =
     let long = room .before in
     let second = long .before .before .before in
     let s = second .before .before .before in
-    both-written (given s) _ _ (first-length s) (second-length s) (long .if1 .left) (room .if2 .left) (list .list .ensures) (plan .plan .ensures)
+    both-written (given s) _ _ (list-length s) (plan-length s) (long .if1 .left) (room .if2 .left) (list .list .ensures) (plan .plan .ensures)
 
 pub both-spec : {M : Type 1} → statement M
 both-spec =

@@ -10,7 +10,7 @@ use lib.Seq.{length-take-le}
 use Rattle.density.specs.Network.{Listing}
 use Rattle.records.specs.Bytes.{le}
 use Rattle.records.specs.Format.{siteSize}
-use Rattle.records.specs.Write.{siteBytes}
+use Rattle.records.specs.Write.{siteBytes, listBytes}
 use Rattle.records.proofs.Bytes.{length-le}
 use Rattle.records.proofs.Buffers.{Front, front-none, front-next, front-lent, list-front, length-list, length-flat, length-site, written, too-short}
 use Rattle.writers.proofs.list_of.Statement.{statement}
@@ -62,7 +62,7 @@ add-total c = omega (arith, small (c .before))
 returns : tie.Need-returns
 returns c =
     let s = c .before .before in
-    too-short _ (length-list (s .args .e) (given s) ∙ ap (λ (k : ℕ). 4 + siteSize (s .args .e) * k) (taken s)) (c .if1 .taken)
+    too-short (listBytes (s .args .e) (given s)) _ (length-list (s .args .e) (given s) ∙ ap (λ (k : ℕ). 4 + siteSize (s .args .e) * k) (taken s)) (c .if1 .taken)
 
 number-at-requires : tie.Need-number-at-requires
 number-at-requires c κs = search needs

@@ -9,7 +9,7 @@ use borrow.Rule.Slice.PartMut.{putMid}
 use lib.ListN.{length}
 use Rattle.records.specs.Bytes.{le}
 use Rattle.records.specs.Values.{Plan}
-use Rattle.records.specs.Write.{markBytes}
+use Rattle.records.specs.Write.{markBytes, planBytes}
 use Rattle.records.proofs.Bytes.{length-le}
 use Rattle.records.proofs.Buffers.{Front, front-lent, front-none, front-next, plan-front, length-plan, length-flat, length-mark, written, too-short}
 use Rattle.writers.proofs.plan_of.Statement.{statement}
@@ -93,7 +93,7 @@ returns : tie.Need-returns
 returns c =
     let sized = c .before in
     let s = sized .before .before .before in
-    too-short _ (length-plan (s .args .e) (given s)) (c .if1 .taken)
+    too-short (planBytes (s .args .e) (given s)) _ (length-plan (s .args .e) (given s)) (c .if1 .taken)
 
 number-at-requires : tie.Need-number-at-requires
 number-at-requires c κs = search needs

@@ -1,7 +1,7 @@
--- `console::convert_both` meets its contract. Assumes nothing.
+-- `console::convert_plan` meets its contract. Assumes nothing.
 use borrow.Author.Needs.{needs}
-use Rattle.console.proofs.convert_both.Statement.{statement}
-use Rattle.console.proofs.convert_both.Tie as tie
+use Rattle.console.proofs.convert_plan.Statement.{statement}
+use Rattle.console.proofs.convert_plan.Tie as tie
 
 downgrade-plan-requires : tie.Need-downgrade-plan-requires
 downgrade-plan-requires c κs = search needs
@@ -35,8 +35,8 @@ returns-2 c =
     let way = called .before .before .before in
     rw (way .if1 .left) (called .upgrade-plan .ensures)
 
-pub convert-both-spec : {M : Type 1} → statement M
-convert-both-spec =
+pub convert-plan-spec : {M : Type 1} → statement M
+convert-plan-spec =
     tie.close
     (tie.spec
     downgrade-plan-requires
