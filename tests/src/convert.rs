@@ -1,6 +1,6 @@
 //! Lists and plans put to the converter, each way beside the reference: up from edition 1, back from edition 2.
 
-use crate::damage::{reordered, spoil, Base};
+use crate::damage::{kept, reordered, spoil, Base};
 use crate::families::{extent, random, scattered, union, Extent, FAMILIES, LARGEST};
 use crate::known;
 use crate::near::{miss, next_season};
@@ -394,13 +394,6 @@ fn pair(run: &mut Run, base: &Base, early: Fault, late: Fault) -> bool {
     }
     expect(run, e, &given, early.row(), &format!("{early:?} and {late:?}"));
     kept(&whole.list, &once.list, &given.list) && kept(&whole.plan, &once.plan, &given.plan)
-}
-
-/// Whether damage done to `whole` still stands in `twice`, which was damaged again: its length and each byte that it
-/// changed.
-fn kept(whole: &[u8], once: &[u8], twice: &[u8]) -> bool {
-    let changed = |i: &usize| whole.get(*i) != once.get(*i);
-    once == whole || once.len() == twice.len() && (0..once.len()).filter(changed).all(|i| once[i] == twice[i])
 }
 
 /// Spoils what a fault is about, in the bytes of `base` or in bytes that a later one's damage has changed. False where

@@ -286,3 +286,10 @@ pub fn reordered(rng: &mut Rng, base: &Base) -> Option<Plan> {
     let swapped: Vec<u64> = order.iter().map(|&k| groups[k]).collect();
     (swapped != *groups).then(|| Plan { groups: swapped, shares: base.plan.shares.clone() })
 }
+
+/// Whether damage done to `whole` still stands in `twice`, which was damaged again: its length and each byte that it
+/// changed.
+pub fn kept(whole: &[u8], once: &[u8], twice: &[u8]) -> bool {
+    let changed = |i: &usize| whole.get(*i) != once.get(*i);
+    once == whole || once.len() == twice.len() && (0..once.len()).filter(changed).all(|i| once[i] == twice[i])
+}

@@ -10,24 +10,28 @@ use crate::near::{miss, next_season};
 use crate::records::{list_bytes, no_plan, plan_bytes, site, Edition, Plan, Site, EDITIONS, ONE, TWO};
 use crate::run::Run;
 
-/// How often, on a store of each edition, each of the ten calls got each row; place 21 is success, place 22 no store.
-pub type Seen = [[[usize; 23]; 10]; 2];
+/// The places of success and of no store, beside those of the rows.
+pub const DONE: usize = 30;
+pub const NO_STORE: usize = 31;
+pub const PLACES: usize = 32;
 
-pub const NONE: Seen = [[[0; 23]; 10]; 2];
+/// How often, on a store of each edition, each of the ten calls got each row, success or no store.
+pub type Seen = [[[usize; PLACES]; 10]; 2];
 
-/// The rows that each call can answer, 21 for success; row 0 only where the bytes are foreign. No store, 22, where
-/// they are of another number.
+pub const NONE: Seen = [[[0; PLACES]; 10]; 2];
+
+/// What each call can answer; row 0 only where the bytes are foreign, no store where they are of another number.
 const ROWS: [&[usize]; 10] = [
-    &[1, 2, 3, 4, 5, 6, 21, 22],
-    &[0, 6, 18, 21, 22],
-    &[0, 2, 5, 6, 21, 22],
-    &[0, 7, 8, 9, 10, 11, 12, 13, 14, 15, 16, 21, 22],
-    &[0, 17, 18, 21, 22],
-    &[0, 17, 19, 21, 22],
-    &[0, 17, 19, 21, 22],
-    &[0, 17, 20, 21, 22],
-    &[0, 17, 21, 22],
-    &[0, 20, 21, 22],
+    &[1, 2, 3, 4, 5, 6, DONE, NO_STORE],
+    &[0, 6, 18, DONE, NO_STORE],
+    &[0, 2, 5, 6, DONE, NO_STORE],
+    &[0, 7, 8, 9, 10, 11, 12, 13, 14, 15, 16, DONE, NO_STORE],
+    &[0, 17, 18, DONE, NO_STORE],
+    &[0, 17, 19, DONE, NO_STORE],
+    &[0, 17, 19, DONE, NO_STORE],
+    &[0, 17, 20, DONE, NO_STORE],
+    &[0, 17, DONE, NO_STORE],
+    &[0, 20, DONE, NO_STORE],
 ];
 
 /// Lengths of no store, around those of a store of either edition and of its parts.
@@ -93,8 +97,8 @@ fn call(run: &mut Run, desk: &mut Bytes, book: &mut Result<Book, Refusal>, call:
         (Err(refusal), _) => Err(*refusal),
     };
     let place = match expected {
-        Ok(_) => 21,
-        Err(Refusal::NoStore) => 22,
+        Ok(_) => DONE,
+        Err(Refusal::NoStore) => NO_STORE,
         Err(Refusal::Row(row)) => usize::from(row),
     };
     // a length of neither edition is none of either

@@ -10,7 +10,7 @@
 use std::time::Instant;
 
 use engine_tests::convert;
-use engine_tests::damage::{reordered, spoil, Base};
+use engine_tests::damage::{kept, reordered, spoil, Base};
 use engine_tests::decompose::shares;
 use engine_tests::desk;
 use engine_tests::families::{extent, random, scattered, union, Extent, FAMILIES, LARGEST};
@@ -61,7 +61,7 @@ fn main() {
     let mut seen = desk::NONE;
     part("desk", &mut run, &mut |run| seen = desk::histories(run, 60_000.max(cases / 4)));
     for (edition, kind, row) in desk::missing(&seen) {
-        let what = format!("edition {edition}, desk call {kind} never answered row {row} (21: success, 22: no store)");
+        let what = format!("edition {edition}, desk call {kind} never answered row {row} (30: success, 31: no store)");
         run.fail(&what, &[]);
     }
 
@@ -70,8 +70,8 @@ fn main() {
         let (checks, makes) = (run.checks[n], run.makes[n]);
         println!("edition {}, check, cases by row (0 passes): {}", e.number, by_row(&checks));
         println!("edition {}, make, cases by row (0 makes): {}", e.number, by_row(&makes));
-        let calls: [usize; 23] = std::array::from_fn(|r| seen[n].iter().map(|calls| calls[r]).sum());
-        println!("edition {}, desk, calls by row (21: success, 22: no store): {}", e.number, by_row(&calls));
+        let calls: [usize; desk::PLACES] = std::array::from_fn(|r| seen[n].iter().map(|calls| calls[r]).sum());
+        println!("edition {}, desk, calls by row (30: success, 31: no store): {}", e.number, by_row(&calls));
         if (0..=16).any(|r| checks[r] == 0) || [0, 1, 2, 3, 4, 5, 6, 20].iter().any(|&r: &usize| makes[r] == 0) {
             run.fail(&format!("edition {}: a row was never answered", e.number), &[]);
         }
@@ -320,10 +320,12 @@ fn parts(run: &mut Run, edition: Edition) -> Base {
     Base { edition, sites, plan }
 }
 
-/// Damage for a later row and then for an earlier one. False where the base does not allow both.
+/// Damage for a later row and then for an earlier one. False where the base does not allow both, or where the second
+/// damage takes back some of the first.
 fn pair(run: &mut Run, base: &Base, early: u8, late: u8) -> bool {
     let e = base.edition;
     let mut list = list_bytes(e, &base.sites);
+    let whole = [list.clone(), plan_bytes(e, &base.plan)];
     let reordered = if late == 16 { reordered(&mut run.rng, base) } else { None };
     if late == 16 && reordered.is_none() {
         return false;
@@ -337,6 +339,7 @@ fn pair(run: &mut Run, base: &Base, early: u8, late: u8) -> bool {
     if run.check(&list, &plan) != late {
         run.fail(&format!("the damage for row {late} gives another"), &[("list", &list), ("plan", &plan)]);
     }
+    let once = [list.clone(), plan.clone()];
     if !spoil(&mut run.rng, early, base, &mut list, &mut plan) {
         return false;
     }
@@ -346,7 +349,7 @@ fn pair(run: &mut Run, base: &Base, early: u8, late: u8) -> bool {
     if early <= 6 {
         run.make(&list, &[], 0);
     }
-    true
+    kept(&whole[0], &once[0], &list) && kept(&whole[1], &once[1], &plan)
 }
 
 /// A random list of either edition, mostly small, with its cases.
