@@ -26,10 +26,10 @@ use Rattle.records.specs.Format.{edition1, edition2, editionOf, readList, readP
 use Rattle.records.specs.Write.{listBytes, planBytes, isShort, fitted, WrittenOf, All, Marked, Allowed, Good}
 use Rattle.records.specs.Files.{Files, files, fittedBoth, WrittenBoth}
 use Rattle.records.proofs.Records.{all-from, all-at}
-use Rattle.records.proofs.Outcomes.{clear, Proper, Numbered, gate-proper, bind-proper, list-numbered}
+use Rattle.records.proofs.Outcomes.{clear, gate-numbered, bind-numbered, list-numbered}
 use Rattle.records.proofs.RoundTrip.{list-read, list-back, list-again, list-allowed, list-good, list-few, list-depots, laid-read, plan-read}
 use Rattle.records.proofs.Samples.{marked1, marked2}
-use Rattle.records.proofs.Files.{front-of, fronts-of, Room, fitted-proper, both-proper}
+use Rattle.records.proofs.Files.{front-of, fronts-of, fitted-room, both-room}
 use Rattle.readers.proofs.Editions.{names1, names2}
 use Rattle.judge.specs.Check.{judgedFor, judged, checkRow, checkedRow, True}
 use Rattle.judge.proofs.Truth.{judged-read, judged-numbered, judged-true, true-judged}
@@ -331,18 +331,30 @@ pub other-plans : (back : Bool) (s plan out other : List ℕ) {l : Listing} {p :
 other-plans false s plan out other {l} h r = own-plans upgrade s plan out other h (rw (plan-read edition2 (length (l .sites)) plan r .mark) refl)
 other-plans true s plan out other {l} h r = own-plans downgrade s plan out other h (rw (plan-read edition1 (length (l .sites)) plan r .mark) refl)
 
--- ---- a refusal's number is not 0, and a list that is written has room
+-- ---- what is written has room, and a refusal's number is not 0
 
-taken-numbered : (w : Way) (s : List ℕ) → Numbered (listFor w s)
+pub list-room : (w : Way) (s out x : List ℕ) → convertList w s out ≡ passed x → isShort out x ≡ false
+list-room w s out x h = let (l, took, wrote) = list-found w s out h in fitted-room (listBytes (w .to) l) out x (rw took at h)
+
+pub plan-room : (w : Way) (s plan out other : List ℕ) (x : Files) → convertPlan w s plan out other ≡ passed x → isShort out (x .list) ≡ false
+plan-room w s plan out other x h =
+    let f = plan-found w s plan out other h in
+    both-room (files (w .to) (f .sites) (f .figures)) out other x (rw (f .took, f .passes) at h)
+
+taken-numbered : (w : Way) (s : List ℕ) (n : ℕ) → listFor w s ≡ refused n → 0 < n
 taken-numbered w s =
-    bind-proper _ (readList (w .from) 512 s) _ (list-numbered (w .from) 512 s) (λ (l : Listing). gate-proper _ (row 21 (w .back && outside l) ∷ []) tt l (λ c. tt))
+    bind-numbered (readList (w .from) 512 s) _ (list-numbered (w .from) 512 s) (λ (l : Listing). gate-numbered (row 21 (w .back && outside l) ∷ []) tt l)
 
-pub list-proper : (w : Way) (s out : List ℕ) → Proper (Room out) (convertList w s out)
-list-proper w s out = bind-proper (Room out) (listFor w s) _ (taken-numbered w s) (λ (l : Listing). fitted-proper (listBytes (w .to) l) out)
+pub list-row-numbered : (w : Way) (s out : List ℕ) (n : ℕ) → convertList w s out ≡ refused n → 0 < n
+list-row-numbered w s out =
+    bind-numbered (listFor w s) _ (taken-numbered w s) (λ (l : Listing). gate-numbered (row 20 (isShort out (listBytes (w .to) l)) ∷ []) tt (listBytes (w .to) l))
 
-pub plan-proper : (w : Way) (s plan out other : List ℕ) → Proper (λ (x : Files). Room out (x .list)) (convertPlan w s plan out other)
-plan-proper w s plan out other =
-    bind-proper _ (listFor w s) _ (taken-numbered w s)
+pub plan-row-numbered : (w : Way) (s plan out other : List ℕ) (n : ℕ) → convertPlan w s plan out other ≡ refused n → 0 < n
+plan-row-numbered w s plan out other =
+    bind-numbered (listFor w s) _ (taken-numbered w s)
     (λ (l : Listing).
-    bind-proper _ (judgedFor (w .from) l plan) _ (judged-numbered (w .from) l plan)
-    (λ (p : Plan). both-proper (files (w .to) l p) out other))
+    bind-numbered (judgedFor (w .from) l plan) _ (judged-numbered (w .from) l plan)
+    (λ (p : Plan). both-numbered (files (w .to) l p)))
+  where
+    both-numbered : (x : Files) (n : ℕ) → fittedBoth x out other ≡ refused n → 0 < n
+    both-numbered x = gate-numbered (row 20 (isShort out (x .list)) ∷ row 20 (isShort other (x .plan)) ∷ []) tt x

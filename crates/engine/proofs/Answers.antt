@@ -17,7 +17,7 @@ use Rattle.records.specs.Outcome.{Outcome, refused, passed}
 use Rattle.records.specs.Format.{readList}
 use Rattle.records.specs.Write.{planBytes, fitted, WrittenOf, Written}
 use Rattle.records.specs.Files.{WrittenBoth}
-use Rattle.records.proofs.Files.{fitted-proper, length-held, lengths-held}
+use Rattle.records.proofs.Files.{fitted-room, length-held, lengths-held}
 use Rattle.tables.specs.declared.Verdict.{Verdict}
 use Rattle.tables.specs.declared.Verdict.the-variants.{Passes, Refused}
 use Rattle.tables.specs.Verdict.{verdict}
@@ -25,7 +25,7 @@ use Rattle.judge.specs.Check.{checkRow}
 use Rattle.maker.specs.Make.{Made}
 use Rattle.converter.specs.declared.Way.{Way}
 use Rattle.converter.specs.Convert.{convertList, convertPlan}
-use Rattle.converter.proofs.Ways.{list-proper, plan-proper}
+use Rattle.converter.proofs.Ways.{list-room, plan-room}
 use Rattle.engine.specs.Codes.{checkCode, wroteCode, bothCode, planLengthIn, ListCode, BothCode}
 
 abbrev verdictCode : Verdict → ℤ
@@ -46,7 +46,7 @@ pub length-fits : (e : Edition) (list out last : List ℕ) {r : Wrote} → lengt
 length-fits e list out last {r} l m n h = by-list (readList e 512 list) m
   where
     by-written : (bytes : List ℕ) → Written bytes out r last → n < 2 ^ 63
-    by-written bytes v = let k = length-held (fitted bytes out) out (fitted-proper bytes out) (sym h ∙ v .answer) in omega arith
+    by-written bytes v = let k = length-held (fitted bytes out) out (fitted-room bytes out) (sym h ∙ v .answer) in omega arith
 
     by-list : (o : Outcome Listing) → Made e o out r last → n < 2 ^ 63
     by-list (refused k) m = let g = m .0 in let z : _≡_ {A = ℕ} 0 1 = cc in absurd (omega arith)
@@ -54,12 +54,12 @@ length-fits e list out last {r} l m n h = by-list (readList e 512 list) m
 
 pub list-fits : (w : Way) (s out last : List ℕ) {r : Wrote} → length out * 1 < 2 ^ 63 → WrittenOf (convertList w s out) out r last
     → (n : ℕ) → r ≡ wrote.Length n → n < 2 ^ 63
-list-fits w s out last l v n h = let k = length-held (convertList w s out) out (list-proper w s out) (sym h ∙ v .answer) in omega arith
+list-fits w s out last l v n h = let k = length-held (convertList w s out) out (list-room w s out) (sym h ∙ v .answer) in omega arith
 
 pub plan-fits : (w : Way) (s plan out other last rest : List ℕ) {r : WroteBoth} → length out * 1 < 2 ^ 63 → WrittenBoth (convertPlan w s plan out other) out other r last rest
     → (n k : ℕ) → r ≡ both.Lengths n k → n < 2 ^ 63
 plan-fits w s plan out other last rest l v n k h =
-    let m = lengths-held (convertPlan w s plan out other) out (plan-proper w s plan out other) (sym h ∙ v .answer) in omega arith
+    let m = lengths-held (convertPlan w s plan out other) out (plan-room w s plan out other) (sym h ∙ v .answer) in omega arith
 
 -- ---- the converters
 

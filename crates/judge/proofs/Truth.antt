@@ -4,7 +4,7 @@ use mathlib.Core.Logic.{_↔_}
 use mathlib.Core.List.{List}
 use mathlib.Core.Bool.{Bool, true, false, or-true}
 use mathlib.Core.Option.{Option, none, some, Option·none-ne-some}
-use Prim.Native.Nat.{ℕ, _≤_}
+use Prim.Native.Nat.{ℕ, _<_, _≤_}
 use native.Mathlib.Omega.{arith}
 use borrow.Author.Tests.{not-true}
 use lib.Dec.{T, ltb, eqb}
@@ -21,7 +21,7 @@ use Rattle.records.specs.Values.{Plan}
 use Rattle.records.specs.Outcome.{Outcome, refused, passed, settle, gate, bind}
 use Rattle.records.specs.Format.{edition1, edition2, editionOf, readList, readPlan}
 use Rattle.records.specs.Write.{LaidOut, Marked}
-use Rattle.records.proofs.Outcomes.{clear, Numbered, gate-proper, bind-proper, plan-numbered}
+use Rattle.records.proofs.Outcomes.{clear, gate-numbered, bind-numbered, plan-numbered}
 use Rattle.records.proofs.RoundTrip.{list-few, list-depots, laid-read, read-laid}
 use Rattle.readers.proofs.Editions.{marks}
 use Rattle.judge.specs.Check.{judgedFor, refusal, checkRow, True, TrueOf}
@@ -39,11 +39,11 @@ judged-read e l plan {p} h = by-read (readPlan e (length (l .sites)) plan) h
     by-read (passed q) h = ap passed (clear (planRows (network l) (q .groups) (q .shares)) h .1)
 
 -- the number of a row that refuses it is not 0
-pub judged-numbered : (e : Edition) (l : Listing) (plan : List ℕ) → Numbered (judgedFor e l plan)
+pub judged-numbered : (e : Edition) (l : Listing) (plan : List ℕ) (n : ℕ) → judgedFor e l plan ≡ refused n → 0 < n
 unfolding planRows
 judged-numbered e l plan =
-    bind-proper _ (readPlan e (length (l .sites)) plan) _ (plan-numbered e (length (l .sites)) plan)
-    (λ (p : Plan). gate-proper _ (planRows (network l) (p .groups) (p .shares)) tt p (λ c. tt))
+    bind-numbered (readPlan e (length (l .sites)) plan) _ (plan-numbered e (length (l .sites)) plan)
+    (λ (p : Plan). gate-numbered (planRows (network l) (p .groups) (p .shares)) tt p)
 
 -- the plans that no row refuses for a list, and those that are true of it
 module _ (e : Edition) (l : Listing) (range : T (depotsInRange l)) (plan : List ℕ) (p : Plan) where

@@ -14,7 +14,7 @@ use Rattle.records.specs.declared.WroteBoth.the-variants as both
 use Rattle.records.specs.Outcome.{Outcome, refused, passed}
 use Rattle.records.specs.Write.{onto, isShort, fitted, wroteOf, WrittenOf, Written}
 use Rattle.records.specs.Files.{Files, fittedBoth, wroteBothOf, WrittenBoth}
-use Rattle.records.proofs.Outcomes.{clear, Proper, gate-proper}
+use Rattle.records.proofs.Outcomes.{clear}
 
 -- ---- two buffers
 
@@ -73,22 +73,20 @@ fronts-of (passed x) list-out plan-out list-last plan-last n k w =
 
 -- ---- a length that is answered is one that the buffer has
 
--- bytes that a buffer has room for
-abbrev pub Room : List ℕ → List ℕ → Type 0
-Room out bytes = length bytes ≤ length out
+pub length-held : (o : Outcome (List ℕ)) (out : List ℕ) {n : ℕ} → ((x : List ℕ) → o ≡ passed x → isShort out x ≡ false) → one.Length n ≡ wroteOf o → n ≤ length out
+length-held (refused m) out f e = let z : _≡_ {A = ℕ} 0 1 = cc in absurd (omega arith)
+length-held (passed x) out {n} f e = let z : n ≡ length x = cc in let l = ltb-false (length out) (length x) (f x refl) in omega arith
 
-pub fitted-proper : (bytes out : List ℕ) → Proper (Room out) (fitted bytes out)
-fitted-proper bytes out = gate-proper (Room out) (row 20 (isShort out bytes) ∷ []) tt bytes (λ c. ltb-false (length out) (length bytes) (c .0))
+pub lengths-held : (o : Outcome Files) (out : List ℕ) {n k : ℕ} → ((x : Files) → o ≡ passed x → isShort out (x .list) ≡ false) → both.Lengths n k ≡ wroteBothOf o
+    → n ≤ length out
+lengths-held (refused m) out f e = let z : _≡_ {A = ℕ} 0 1 = cc in absurd (omega arith)
+lengths-held (passed x) out {n} f e = let z : n ≡ length (x .list) = cc in let l = ltb-false (length out) (length (x .list)) (f x refl) in omega arith
 
-pub both-proper : (x : Files) (list-out plan-out : List ℕ) → Proper (λ (y : Files). Room list-out (y .list)) (fittedBoth x list-out plan-out)
-both-proper x list-out plan-out =
-    gate-proper (λ (y : Files). Room list-out (y .list)) (row 20 (isShort list-out (x .list)) ∷ row 20 (isShort plan-out (x .plan)) ∷ []) tt x
-    (λ c. ltb-false (length list-out) (length (x .list)) (c .0))
+-- bytes that were found have room
+pub fitted-room : (bytes out : List ℕ) (x : List ℕ) → fitted bytes out ≡ passed x → isShort out x ≡ false
+fitted-room bytes out x h = let (c, e) = clear (row 20 (isShort out bytes) ∷ []) h in rw (← e) (c .0)
 
-pub length-held : (o : Outcome (List ℕ)) (out : List ℕ) {n : ℕ} → Proper (Room out) o → one.Length n ≡ wroteOf o → n ≤ length out
-length-held (refused m) out h e = let z : _≡_ {A = ℕ} 0 1 = cc in absurd (omega arith)
-length-held (passed bytes) out {n} h e = let z : n ≡ length bytes = cc in omega arith
-
-pub lengths-held : (o : Outcome Files) (out : List ℕ) {n k : ℕ} → Proper (λ (x : Files). Room out (x .list)) o → both.Lengths n k ≡ wroteBothOf o → n ≤ length out
-lengths-held (refused m) out h e = let z : _≡_ {A = ℕ} 0 1 = cc in absurd (omega arith)
-lengths-held (passed x) out {n} h e = let z : n ≡ length (x .list) = cc in omega arith
+pub both-room : (y : Files) (list-out plan-out : List ℕ) (x : Files) → fittedBoth y list-out plan-out ≡ passed x → isShort list-out (x .list) ≡ false
+both-room y list-out plan-out x h =
+    let (c, e) = clear (row 20 (isShort list-out (y .list)) ∷ row 20 (isShort plan-out (y .plan)) ∷ []) h in
+    rw (← e) (c .0)

@@ -2,7 +2,7 @@
 use Prim.Native.Nat.{ℕ, _<_}
 use mathlib.Core.Bool.{Bool, true, false, _&&_, _||_}
 use mathlib.Core.List.{List, [], _∷_}
-use mathlib.Core.Path.{_≡_, refl}
+use mathlib.Core.Path.{_≡_, refl, ap}
 use native.Mathlib.Omega.{arith}
 use lib.Dec.{T, ltb, ltb→lt}
 use Rattle.sets.proofs.Test.{and-l, and-r}
@@ -35,33 +35,25 @@ abbrev numbered : List Row → Bool
 numbered [] = true
 numbered (row n t ∷ rows) = ltb 0 n && numbered rows
 
--- a refusal's number is not 0, and what passed has P
-abbrev pub Proper : {A : Type 0} → (A → Type 0) → Outcome A → Type 0
-Proper P (refused n) = 0 < n
-Proper P (passed a) = P a
-
--- the same where nothing is said of what passed
-abbrev pub Numbered : {A : Type 0} → Outcome A → Type 0
-Numbered {A} o = Proper {A = A} (λ (a : A). Unit {0}) o
-
-pub gate-proper : {A : Type 0} (P : A → Type 0) (rows : List Row) → T (numbered rows) → (a : A) → (Clear rows → P a) → Proper P (gate rows a)
+-- so none that refuses has
+pub gate-numbered : {A : Type 0} (rows : List Row) → T (numbered rows) → (a : A) (n : ℕ) → gate rows a ≡ refused n → 0 < n
 unfolding firstRow
-gate-proper P [] t a f = f tt
-gate-proper P (row n true ∷ rows) t a f = ltb→lt 0 n (and-l (ltb 0 n) (numbered rows) t)
-gate-proper P (row n false ∷ rows) t a f = gate-proper P rows (and-r (ltb 0 n) (numbered rows) t) a (λ c. f (refl, c))
+gate-numbered [] t a n h = let z : _≡_ {A = ℕ} 0 1 = cc in absurd (omega arith)
+gate-numbered (row m true ∷ rows) t a n h = let l = ltb→lt 0 m (and-l (ltb 0 m) (numbered rows) t) in let e : m ≡ n = cc in omega arith
+gate-numbered (row m false ∷ rows) t a n h = gate-numbered rows (and-r (ltb 0 m) (numbered rows) t) a n h
 
-pub bind-proper : {A B : Type 0} (P : B → Type 0) (o : Outcome A) (f : A → Outcome B) → Numbered o → ((a : A) → Proper P (f a)) → Proper P (bind o f)
-bind-proper P (refused n) f h k = h
-bind-proper P (passed a) f h k = k a
+pub bind-numbered : {A B : Type 0} (o : Outcome A) (f : A → Outcome B) → ((n : ℕ) → o ≡ refused n → 0 < n) → ((a : A) (n : ℕ) → f a ≡ refused n → 0 < n)
+    → (n : ℕ) → bind o f ≡ refused n → 0 < n
+bind-numbered (refused m) f h k n e = let z : m ≡ n = cc in h n (ap refused z)
+bind-numbered (passed a) f h k n e = k a n e
 
--- so a reader's refusal is not 0
-pub list-numbered : (e : Edition) (places : ℕ) (s : List ℕ) → Numbered (readList e places s)
+pub list-numbered : (e : Edition) (places : ℕ) (s : List ℕ) (n : ℕ) → readList e places s ≡ refused n → 0 < n
 unfolding readList
-list-numbered e places s = gate-proper _ (listRows e places s) tt _ (λ c. tt)
+list-numbered e places s = gate-numbered (listRows e places s) tt _
 
-pub plan-numbered : (e : Edition) (n : ℕ) (s : List ℕ) → Numbered (readPlan e n s)
+pub plan-numbered : (e : Edition) (sites : ℕ) (s : List ℕ) (n : ℕ) → readPlan e sites s ≡ refused n → 0 < n
 unfolding readPlan
-plan-numbered e n s = gate-proper _ (layoutRows e n s) tt _ (λ c. tt)
+plan-numbered e sites s = gate-numbered (layoutRows e sites s) tt _
 
 pub or-false : (a b : Bool) → (a || b) ≡ false → (a ≡ false) × (b ≡ false)
 or-false true b h = let z : _≡_ {A = ℕ} 0 1 = cc in absurd (omega arith)
