@@ -5,11 +5,12 @@
  * bytes may stand anywhere: no alignment is asked of them. What a function writes must not overlap
  * anything else that it is given. The functions keep nothing between calls and allocate nothing; they call
  * memcpy and memset and no other function. They may be called from several threads at once. On one desk only
- * questions (share, depot, difference, written, at_least) and list may: a load, a change or an added site that
- * succeeds writes store and table, a proposal that succeeds the store. What a function takes as const it has no
- * right to write: the proved function has it as a slice that is only read (&[u8]). A refused call leaves every
- * byte as it was; tests/c/read_only_t.c asks questions, has the list written out, lists and plans converted and calls
- * refused on pages that cannot be written.
+ * questions (share, depot, difference, written, at_least), list and migrate may: a load, a change or an added site that
+ * succeeds writes store and table, a proposal that succeeds the store; migrate writes a new store and table and reads
+ * the old ones. What a function takes as const it has no right to write: the proved function has it as a slice that is
+ * only read (&[u8]). A refused call leaves every byte as it was; tests/c/read_only_t.c asks questions, has the list
+ * written out, a desk go over to edition 2, lists and plans converted and calls refused on pages that cannot be
+ * written.
  *
  * A function that writes a list or a plan (make, written, list, upgrade_list, downgrade_list) writes it to the front of
  * the buffer, answers the length that it wrote, and leaves the bytes behind it as they were. One that writes both, each
@@ -36,8 +37,9 @@
  * its own edition, and row 7 refuses the other; Make writes in the list's edition. Upgrade takes edition 1 and writes
  * edition 2, downgrade takes edition 2 and writes edition 1: row 1 or row 7 refuses the other. A store is of edition 1
  * or 2 too, told by its length, and takes lists and plans of its own edition only: row 1 or row 7 refuses the other.
- * All calls of the desk but fresh, change and add have one function for either edition. Those three serve edition 1,
- * and fresh2, change2 and add2 serve edition 2: litres are 16 bits in the one and 32 in the other.
+ * All calls of the desk but fresh, change, add and migrate have one function for either edition. Fresh, change and add
+ * serve edition 1, and fresh2, change2 and add2 serve edition 2: litres are 16 bits in the one and 32 in the other.
+ * Migrate turns a desk of edition 1, with the plan that it holds or without one, into a desk of edition 2.
  *
  * Figures. A site is carried by the later of its two depots' groups. Of a group:
  *   q  its size, the number of its depots
@@ -73,7 +75,7 @@
 /* The stack in bytes that suffices, in either edition, for sulgheti_check, for sulgheti_make, for each of the four
  * functions that convert (upgrade_list, upgrade_plan, downgrade_list, downgrade_plan), for sulgheti_fresh and
  * sulgheti_fresh2, for a question (share, depot, difference, written, at_least) and for list, and for any other call
- * of the desk (load, change, change2, add, add2, propose). Measured at 512 sites and rounded up; the
+ * of the desk (load, change, change2, add, add2, propose, migrate). Measured at 512 sites and rounded up; the
  * frames have fixed sizes, and nothing recurses. Under lazy binding the program's first call of memcpy or memset
  * may take more, since the dynamic linker looks the function up on the same stack: some 3 KB where it was
  * measured. The stated figures have room for that, 8,000 bytes or more. tests/c/stack_t.c makes every call on so
@@ -89,7 +91,8 @@
 #define SULGHETI_CORRUPT (-256)
 
 /* No row: store_len is neither SULGHETI_STORE_BYTES nor SULGHETI_STORE2_BYTES; for fresh, change and add that it is not
- * the first, for fresh2, change2 and add2 that it is not the second. */
+ * the first, for fresh2, change2 and add2 that it is not the second; for migrate that store_len is not the first or
+ * store2_len not the second. */
 #define SULGHETI_NO_STORE (-257)
 
 #ifdef __cplusplus
@@ -138,9 +141,9 @@ int64_t sulgheti_downgrade_plan(const uint8_t *list, size_t list_len, const uint
 
 /* The desk. Each call but sulgheti_fresh and sulgheti_fresh2 gets the store and the table as the one before left
  * them. A store whose length is that of no edition is refused by SULGHETI_NO_STORE by every call, load too, and a
- * store of the other edition by fresh, change, add, fresh2, change2 and add2, before any row is tried: nothing that
- * was lent is then changed. Store, table, list, plan and buffer are not even read, as tests/c/read_only_t.c tests on
- * pages that cannot be. */
+ * store of the other edition by fresh, change, add, fresh2, change2, add2 and migrate, before any row is tried: nothing
+ * that was lent is then changed. Store, table, list, plan and buffer are not even read, as tests/c/read_only_t.c tests
+ * on pages that cannot be. */
 
 /* An empty desk of edition 1, and of edition 2: 0. */
 int64_t sulgheti_fresh(uint8_t *store, size_t store_len);
@@ -204,6 +207,19 @@ int64_t sulgheti_at_least(const uint8_t *store, size_t store_len, const uint8_t 
  * written out, until it is changed or added to, as the bytes that it was loaded from. */
 int64_t sulgheti_list(const uint8_t *store, size_t store_len, const uint8_t *table, size_t table_len,
                       uint8_t *buffer, size_t buffer_len);
+
+/* A desk of edition 1, store and table, goes over to edition 2, store2 and table2: 0, or rows 0, 2; row 2 where table2
+ * has fewer places than the desk has sites. The sites, the plan held and the lack of one carry over, and each question
+ * to the new desk gets the figures that it gets from the old one; list and written write in edition 2, the same figures
+ * in the longer records. On a desk that its own calls alone wrote, that is what sulgheti_upgrade_list and
+ * sulgheti_upgrade_plan make of what they wrote before.
+ * The old desk is only read: it may go on as it is, apart from the new one. What store2 and table2 held before does not
+ * matter: all of store2 is written, and its sets and shares beyond those held are zero; table2 gets the sites in front,
+ * and its other places and the bytes behind the last whole place keep their content. Where a row refuses, store2 and
+ * table2 stay as they were, and so they do with SULGHETI_NO_STORE: store_len is not SULGHETI_STORE_BYTES, or
+ * store2_len not SULGHETI_STORE2_BYTES. */
+int64_t sulgheti_migrate(const uint8_t *store, size_t store_len, const uint8_t *table, size_t table_len,
+                         uint8_t *store2, size_t store2_len, uint8_t *table2, size_t table2_len);
 
 #ifdef __cplusplus
 }

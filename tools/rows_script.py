@@ -1,5 +1,5 @@
 #!/usr/bin/env python3
-"""Writes the console's script of calls and the answers that it must print, from document 01 and requests a to d of document 02 alone.
+"""Writes the console's script of calls and the answers that it must print, from document 01 and requests a to e of document 02 alone.
 
   rows_script.py DIR           writes DIR/stdin and DIR/stdout
   rows_script.py DIR PROGRAM   the same, with the answers of the part `make` taken from the program, and shows which of them differ from what is written here
@@ -9,6 +9,7 @@ Cases are written once, over an edition: `Edition` has its marks and widths, and
 The answer of a check is the row that the case is written for. It is compared with a plain reading of the table (`first_row`), and a difference stops the script.
 What is converted between the editions is read here as figures and written here in the other edition (`converted`); it is held to the rows there, and to the first bytes on the way back.
 The answers of the desk's calls are those of `Book`, document 01's plain book with the question of request a and the writer of request b, of either edition: whether a proposal is true is counted over all sets, and held to the rows.
+Request e's step turns the book of edition 1 into one of edition 2 (`Book.migrate`). Around it every question is put twice and has to get the same figures, and what is written out behind it is what `converted` makes of what was written out before.
 """
 import subprocess
 import sys
@@ -357,6 +358,18 @@ class Book:
             return f"refused {row}"
         self.plan = bs
         return "done"
+
+    def migrate(self, places):
+        """Document 02, e: "where it succeeds, the book keeps its list and plan, now in edition 2, from there on with the new table and its places". Row 0 never applies to a book."""
+        if self.e is not E1:
+            return "bad line"
+        if places < len(self.sites):
+            return "refused 2"
+        if self.plan is not None:
+            self.plan = E2.plan(*plan_in(E1, self.plan))
+        self.e, self.places = E2, places
+        return "done"
+
     def figures(self, d):
         """W and q of a depot, by the definition on the list alone; None where it is not listed."""
         groups = definition(self.sites)
@@ -1402,6 +1415,238 @@ def part_desk_lines(e):
     table(512)
 
 
+def asked():
+    """The figures of every question: each site and one beyond, each listed depot and one that is not, differences, marks."""
+    found = [ask("share", i) for i in range(len(book.sites) + 1)]
+    depots = listed(book.sites) + [64]
+    for a, b in zip(depots, depots[1:] + depots[:1]):
+        found += [ask("depot", a), ask("difference", a, b)]
+    return found + [ask("atleast", mark) for mark in marks()]
+
+
+def written_out(plan, record):
+    """The plan that is held, or None, and the list, written out: into a buffer of the length, longer and shorter by a byte, and none."""
+    for name, bs in (("written", plan), ("list", record)):
+        for more in (-1, 0, 1):
+            if bs is None:
+                ask(name, 40 + more, answer="refused 17 " + "A5" * (40 + more))
+            else:
+                n = len(bs)
+                ask(name, n + more, answer=f"length {n} {text(bs)}" + "A5" * more if more >= 0 else "refused 20 " + "A5" * (n - 1))
+        ask(name, 0, answer="refused 17 -" if bs is None else "refused 20 -")
+
+
+def goes_over(words, places):
+    """The desk goes over to a new table: the questions get the same figures before and after, and the list and the plan are written out as the converter makes them of those written out before."""
+    say(f"{words}: {len(book.sites)} sites, {'no plan' if book.plan is None else 'a plan'} held, into {places} places")
+    sites, plan = book.sites, book.plan
+    before = asked()
+    written_out(plan, E1.list(sites))
+    ask("migrate", places, answer="done")
+    after = asked()
+    assert after == before and (plan is None) == all(x == "refused 17" for x in after), words
+    row, records = converted("upgrade", *([E1.list(sites)] if plan is None else [E1.list(sites), plan]))
+    assert row == 0, words
+    written_out(None if plan is None else records[1], records[0])
+    assert (book.e, book.places, book.sites) == (E2, places, sites)
+
+
+def part_migrate():
+    say("A busy desk goes over: `migrate`. T, with its plan and without one, into a table of one place and of more.")
+    for old, places, plan in ((1, 1, E1.TP), (1, 1, None), (3, 1, E1.TP), (1, 2, None), (512, 512, E1.TP), (600, 600, None), (1, 600, E1.TP), (600, 1, E1.TP)):
+        table(old, E1)
+        ask("load", E1.T, answer="done")
+        if plan:
+            ask("propose", plan, answer="done")
+        goes_over("T", places)
+    table(1, E1)
+    held([(0, 1, 10)], E1.TP)
+    ask("migrate", 1, words="the answers in full", answer="done")
+    ask("share", 0, answer="share 10 20")
+    ask("depot", 1, answer="depot 10 2")
+    ask("difference", 0, 1, answer="difference 0 4")
+    at_least(5, 0, 1)
+    at_least(6)
+    ask("written", 25, answer="length 25 " + "5032010100" "47520300000000000000" "53330A00000000000000")
+    ask("written", 24, words="row 20, by the longer records: 21 bytes, enough in edition 1, to 24 are too few", answer="refused 20")
+    ask("written", 21, answer="refused 20")
+    ask("list", 12, answer="length 12 " + "4C320100" "533200010A000000")
+    for length in (11, 10):
+        ask("list", length, answer="refused 20")
+    say("Behind it the desk is one of edition 2: what is of edition 1 is refused by rows 1 and 7, and the plan is kept.")
+    for bs in (E1.T, E1.list([]), E1.list(FOURS), E1.list_head("0102"), E1.T[:-1], b"L3" + E2.T[2:]):
+        ask("load", bs, answer="refused 1")
+    for bs in (E1.TP, E1.plan([], []), E1.plan_head("410200"), E1.TP[:-1], b"P3" + E2.TP[2:]):
+        ask("propose", bs, answer="refused 7")
+    ask("load", E2.list_mark + E1.T[2:], answer="refused 3")
+    ask("propose", E2.plan_mark + E1.TP[2:], answer="refused 10")
+    ask("share", 0, answer="share 10 20")
+    say("It does not go over again: a bad line, with places enough and with too few.")
+    for places in (1, 2, 600, 0):
+        lines.append(f"migrate {places}")
+        answers.append("bad line")
+        assert book.migrate(places) == "bad line"
+        ask("written", 25, answer=f"length 25 {text(E2.TP)}")
+    table(3, E2)
+    ask("migrate", 3, words="nor does a fresh desk of edition 2", answer="bad line")
+    ask("load", E2.T, answer="done")
+    ask("migrate", 3, answer="bad line")
+    ask("list", 12, answer=f"length 12 {text(E2.T)}")
+    say("Litres above 65,535: before the step a bad line, behind it a site's.")
+    for w in (65536, 70000, 2 ** 32 - 1):
+        table(2, E1)
+        held([(0, 1, 10)], E1.TP)
+        ask("change", 0, w, answer="bad line")
+        ask("add", 1, 0, w, answer="bad line")
+        ask("share", 0, answer="share 10 20")
+        ask("migrate", 2, answer="done")
+        ask("share", 0, answer="share 10 20")
+        ask("change", 0, 2 ** 32, answer="bad line")
+        ask("change", 1, w, answer="refused 18")
+        ask("add", 64, 0, w, answer="refused 5")
+        ask("share", 0, answer="share 10 20")
+        ask("change", 0, w, answer="done")
+        ask("share", 0, answer="refused 17")
+        ask("add", 1, 0, w, answer="done")
+        ask("add", 1, 0, w, answer="refused 2")
+        ask("propose", E2.plan([{0, 1}], [w, w]), answer="done")
+        ask("share", 1, answer=f"share {w} {2 * w}")
+        at_least(w, 0, 1)
+        ask("list", 20, answer=f"length 20 {text(E2.list([(0, 1, w), (1, 0, w)]))}")
+    say("Row 2: a place too few for the sites. The old desk and its table are as they were, and the calls go on there.")
+    for sites in ([(0, 1, 10)], NINE_ONE, NINE):
+        groups, n = definition(sites), len(sites)
+        for plan in (E1.plan(groups, shares_of(sites, groups)), None):
+            table(n + 2, E1)
+            ask("load", E1.list(sites), answer="done")
+            if plan:
+                ask("propose", plan, answer="done")
+            before = asked()
+            for places in sorted({0, n // 2, n - 1}):
+                ask("migrate", places, answer="refused 2")
+            assert asked() == before
+            written_out(plan, E1.list(sites))
+            ask("load", E2.list(sites), words="it is still of edition 1", answer="refused 1")
+            ask("change", 0, 65536, answer="bad line")
+            ask("migrate", n, words="and goes over where the places are enough", answer="done")
+            ask("migrate", n, answer="bad line")
+            ask("share", n - 1, answer=before[n - 1])
+            ask("add", 0, 0, 1, words="with the new table's places", answer="refused 2")
+    table(2, E1)
+    held([(0, 1, 10)], E1.TP)
+    ask("migrate", 0, words="refused; then calls that write", answer="refused 2")
+    ask("add", 2, 2, 3, answer="done")
+    ask("add", 2, 2, 3, words="the old table's places", answer="refused 2")
+    ask("migrate", 1, answer="refused 2")
+    ask("change", 0, 12, answer="done")
+    ask("migrate", 1, answer="refused 2")
+    ask("propose", E1.plan([{0, 1}, {2}], [12, 3]), answer="done")
+    ask("migrate", 1, answer="refused 2")
+    ask("written", E1.plan_length(2, 2), answer=f"length {E1.plan_length(2, 2)} " + text(E1.plan([{0, 1}, {2}], [12, 3])))
+    ask("load", E1.T, answer="done")
+    ask("migrate", 1, words="one site again: a place is enough", answer="done")
+    ask("list", 12, answer=f"length 12 {text(E2.T)}")
+    ask("share", 0, answer="refused 17")
+    say("No sites: no place is enough, without a plan and with the plan of no sites.")
+    for places in (0, 1, 600):
+        for plan in (None, E1.plan([], [])):
+            table(0, E1)
+            if plan:
+                ask("propose", plan, answer="done")
+            goes_over("no sites", places)
+            ask("propose", E1.plan([], []), answer="refused 7")
+            ask("propose", E2.plan([], []), answer="done")
+            ask("add", 63, 63, E2.most, answer="done" if places else "refused 2")
+    say("The lists with known plans, loaded, gone over and asked; every call behind the step.")
+    for sites in ([own(0, 7)], FOURS, FALLING, SEVEN, [own(0, 5), (0, 1, 6)], TRIANGLE, NINE, [(62, 63, 65535), (63, 61, 65535), own(61, 1)]):
+        groups = definition(sites)
+        table(len(sites), E1)
+        held(sites, E1.plan(groups, shares_of(sites, groups)))
+        goes_over("a known list", len(sites) + 1)
+        ask("propose", E2.plan(groups, turned(sites, groups)), words="another plan of the list", answer="done")
+        ask("propose", E2.plan(groups, shares_of(sites, groups)), answer="done")
+        ask("add", *own(0, E2.most), words="a heavy site joins", answer="done")
+        ask("share", 0, answer="refused 17")
+        groups = definition(book.sites)
+        ask("propose", E2.plan(groups, shares_of(book.sites, groups)), answer="done")
+        asked()
+        ask("add", 0, 0, 1, answer="refused 2")
+        ask("change", len(sites), 1, answer="done")
+        list_out("a site changed", E2.list(sites + [own(0, 1)]))
+        ask("load", E2.list(sites), answer="done")
+        list_out("loaded again", E2.list(sites))
+    say("Figures in all their bytes: litres and shares whose bytes differ, and the ends of both.")
+    for sites in ([(0, 1, 0x1234), (1, 0, 0xFEDC), own(0, 0x00FF), own(1, 0xFF00)], [own(0, 65535), own(1, 65535), (0, 1, 65535), own(2, 65535), own(3, 65534)]):
+        groups = definition(sites)
+        table(8, E1)
+        held(sites, E1.plan(groups, shares_of(sites, groups)))
+        goes_over("wide figures", 8)
+    say("The largest list: 512 sites, into 512 places and into 600; 511 are too few. No site can be added.")
+    longest = [own(i % 64, 65535 - i % 64) for i in range(512)]
+    counted[tuple(longest)] = [{d} for d in range(64)]  # own sites alone, each depot lighter than the one before
+    counted[tuple(E1.LARGE)] = [set(range(64))]  # as document 01 has it
+    for sites, plan, groups, places in ((E1.LARGE, E1.LARGE_PLAN, 1, 512), (longest, E1.plan([{d} for d in range(64)], [w for _, _, w in longest]), 64, 600)):
+        table(600, E1)
+        held(sites, plan)
+        ask("migrate", 511, answer="refused 2")
+        before = [ask("share", 511), ask("share", 512), ask("depot", 63), ask("difference", 0, 63), ask("difference", 63, 0), ask("atleast", 8 * 65535 - 63)]
+        ask("migrate", places, answer="done")
+        assert [ask("share", 511), ask("share", 512), ask("depot", 63), ask("difference", 0, 63), ask("difference", 63, 0), ask("atleast", 8 * 65535 - 63)] == before
+        records = converted("upgrade", E1.list(sites), plan)[1]
+        n, m = E2.plan_length(groups, 512), 4100
+        assert [len(r) for r in records] == [m, n]
+        ask("written", n, answer=f"length {n} {text(records[1])}")
+        ask("written", n - 1, answer="refused 20")
+        ask("list", m, answer=f"length {m} {text(records[0])}")
+        ask("list", m - 1, answer="refused 20")
+        ask("list", 3076, answer="refused 20")
+        ask("add", 0, 0, 1, answer="refused 2")
+        ask("change", 511, E2.most, answer="done")
+        ask("depot", 63, answer="refused 17")
+    say("The new table is its own: with more places than the old one, and with fewer.")
+    table(1, E1)
+    ask("add", 0, 1, 10, answer="done")
+    ask("migrate", 600, answer="done")
+    ask("add", 2, 3, 70000, answer="done")
+    ask("list", 20, answer=f"length 20 {text(E2.list([(0, 1, 10), (2, 3, 70000)]))}")
+    many = [(k % 64, k // 8, E2.most - k) for k in range(511)]
+    ask("load", E2.list(many), words="511 sites, and one more", answer="done")
+    ask("add", 63, 0, 1, answer="done")
+    ask("add", 0, 0, 1, answer="refused 2")
+    ask("list", 4100, answer=f"length 4100 {text(E2.list(many + [(63, 0, 1)]))}")
+    table(600, E1)
+    ask("add", 0, 1, 10, answer="done")
+    ask("migrate", 2, answer="done")
+    ask("add", 1, 2, 10, answer="done")
+    ask("add", 1, 2, 10, answer="refused 2")
+    ask("load", E2.list(TRIANGLE), answer="refused 2")
+    say("Lines that are no step; the desk is left as it was.")
+    table(3, E1)
+    held([(0, 1, 10)], E1.TP)
+    for line in ("migrate", "migrate 601", "migrate 602", "migrate 4096", "migrate 8192", "migrate 65536", "migrate 65537", "migrate 4294967297", "migrate 18446744073709551617", "migrate 99999999999999999999999", "migrate -",
+                 "migrate -1", "migrate +3", "migrate 0x3", "migrate A", "migrate 3.0", "migrate 1,0", "migrate 3 3", "migrate 3 -", "migrate - 3", f"migrate {text(E1.T)}", f"migrate 3 {text(E1.T)}",
+                 "Migrate 3", "MIGRATE 3", "migrate3", "migrate2 3", "migrat 3", "migrates 3", "mi grate 3", "migrate_ 3", "widen 3", "upgrade 3", "table 3 migrate"):
+        lines.append(line)
+        answers.append("bad line")
+    ask("written", 21, answer=f"length 21 {text(E1.TP)}")
+    raw("spaces, and zeros in front: a line that is one", "  migrate   0000000000000000000000002  ", book.migrate(2))
+    ask("written", 25, answer=f"length 25 {text(E2.TP)}")
+    table(600, E1)
+    ask("migrate", 600, words="the most places", answer="done")
+    ask("list", 4, answer="length 4 4C320000")
+    say("Before any `table` a desk has 512 places; behind `table` and `table2` it is fresh.")
+    table(1, E1)
+    ask("list", 4, answer="length 4 4C530000")
+    ask("migrate", 0, answer="done")
+    table(1, E1)
+    ask("list", 4, answer="length 4 4C530000")
+    ask("load", E1.T, answer="done")
+    ask("migrate", 1, answer="done")
+    table(1, E2)
+    ask("list", 4, answer="length 4 4C320000")
+    table(512, E1)
+
+
 def turned(sites, groups):
     """Level shares of another kind: worked out with each site's depots exchanged."""
     other = shares_of([(b, a, w) for a, b, w in sites], groups)
@@ -1430,18 +1675,22 @@ def near_miss(e, draw, sites, groups, shares):
     return e.plan(groups, shares)
 
 
-def part_histories(e, histories, least):
-    """At least so many proposals become the held plan."""
-    say("Histories: calls drawn by a fixed rule, over at most 6 depots. Proposals are true, true of an earlier list, near misses, and the same again.")
-    draw, done = drawn(3 if e is E1 else 7), 0
+def part_histories(first, histories, least, over=False):
+    """At least so many proposals become the held plan. Where `over` is true, desks go over to edition 2 on the way."""
+    say("Histories: calls drawn by a fixed rule, over at most 6 depots. Proposals are true, true of an earlier list, near misses, and the same again."
+        + (" Desks of edition 1 go over to edition 2 at any point, or try to with too few places." if over else ""))
+    draw, done, steps = drawn(11 if over else 3 if first is E1 else 7), 0, {"done": 0, "refused 2": 0, "bad line": 0}
     for k in range(histories):
         say(f"history {k}")
-        depots, most = 1 + draw(6), (1, 2, 6, e.most)[draw(4)]
-        table((3, 5, 8, 512, 600)[draw(5)], e)
-        plans = [e.plan([], [])]
+        depots, few = 1 + draw(6), (1, 2, 6, None)[draw(4)]
+        table((3, 5, 8, 512, 600)[draw(5)], first)
+        plans = [first.plan([], [])]
         for _ in range(30 + draw(31)):
-            kind, n = draw(24), len(book.sites)
-            if kind < 1:
+            kind, n, e = draw(24), len(book.sites), book.e
+            most = few or e.most
+            if over and draw(6 if n and e is E1 else 40) == 0:
+                steps[ask("migrate", (n - 1, draw(n), draw(n), n - 1, n, n + draw(4), 600)[draw(7)] if n else draw(3))] += 1
+            elif kind < 1:
                 ask("load", e.list([(draw(depots), draw(depots), 1 + draw(most)) for _ in range(draw(6))]))
             elif kind < 2:
                 ask("change", draw(n + 1), draw(most + 1))
@@ -1471,12 +1720,13 @@ def part_histories(e, histories, least):
             else:
                 near = marks()
                 ask("atleast", near[draw(len(near))] if draw(8) else draw(2) * 65536 + draw(most + 1))
+        e = book.e
         if k % 4 and book.sites:
             groups = definition(book.sites)
             ask("propose", e.plan(groups, turned(book.sites, groups)), answer="done")
         ask_all(depots)
         again()
-    assert done >= least, done
+    assert done >= least and (not over or min(steps.values()) >= 8), (done, steps)
 
 
 def other_way(way):
@@ -1813,9 +2063,11 @@ def main():
         part_desk_litres(e)
         part_desk_lines(e)
     part_desk_editions()
+    part_migrate()
     part_converter(cases)
     part_histories(E1, 20, 100)
     part_histories(E2, 3, 15)
+    part_histories(E1, 12, 40, over=True)
     part_make(E1)
     part_make(E2)
     folder = sys.argv[1]

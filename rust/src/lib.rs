@@ -93,6 +93,8 @@
 //! list2[10] = 1;
 //! assert_eq!(sulgheti::downgrade_list(&list2[..12], &mut list1), Err(sulgheti::Row(21)));
 //! ```
+//!
+//! A busy store goes over to edition 2 with its list and its plan by [`Store::migrate`].
 
 use std::fmt;
 
@@ -130,7 +132,7 @@ pub mod ffi {
     pub const CORRUPT: i64 = -256;
 
     /// No row: the store's length is neither [`STORE_BYTES`](crate::STORE_BYTES) nor
-    /// [`STORE2_BYTES`](crate::STORE2_BYTES), or for fresh, change and add that of the other edition.
+    /// [`STORE2_BYTES`](crate::STORE2_BYTES), or for fresh, change, add and migrate that of the other edition.
     pub const NO_STORE: i64 = -257;
 
     extern "C" {
@@ -263,6 +265,16 @@ pub mod ffi {
             table_len: usize,
             buffer: *mut u8,
             buffer_len: usize,
+        ) -> i64;
+        pub fn sulgheti_migrate(
+            store: *const u8,
+            store_len: usize,
+            table: *const u8,
+            table_len: usize,
+            store2: *mut u8,
+            store2_len: usize,
+            table2: *mut u8,
+            table2_len: usize,
         ) -> i64;
     }
 }
@@ -577,6 +589,40 @@ impl<E: Edition> StoreOf<E> {
     }
 }
 
+impl Store {
+    /// The store goes over to edition 2 and a new table of so many places, all zero, and stays as it is itself. The sites,
+    /// the plan held and the lack of one carry over: each question to the new store gets the figures that it got from this
+    /// one, and [`list`](StoreOf::list) and [`written`](StoreOf::written) write in edition 2, the same figures in the longer
+    /// records: of a store that its own calls alone wrote, what [`upgrade_list`] and [`upgrade_plan`] make of what they write
+    /// here. Refused by rows 0 and 2, by row 2 where there are fewer places than sites.
+    ///
+    /// ```
+    /// let mut store = sulgheti::Store::new(2);
+    /// store.load(b"LS\x01\x00ST\x00\x01\x0A\x00").unwrap();
+    /// store.propose(b"PL\x01\x01\x00GR\x03\0\0\0\0\0\0\0SH\x0A\0\0\0").unwrap();
+    /// assert_eq!(store.migrate(0), Err(sulgheti::Row(2)));
+    /// let mut store2 = store.migrate(3).unwrap();
+    /// assert_eq!(store2.share(0), store.share(0));
+    /// assert_eq!(store2.depot(1), Ok((10, 2)));
+    /// let mut plan = [0; 25];
+    /// assert_eq!(store2.written(&mut plan), Ok(25));
+    /// assert_eq!(plan, *b"P2\x01\x01\x00GR\x03\0\0\0\0\0\0\0S3\x0A\0\0\0\0\0\0\0");
+    ///
+    /// // The new store has litres above 65,535; the old one still has its list and its plan.
+    /// store2.change(0, 70_000).unwrap();
+    /// assert_eq!(store2.depot(1), Err(sulgheti::Row(17)));
+    /// assert_eq!(store.depot(1), Ok((10, 2)));
+    /// ```
+    pub fn migrate(&self, places: usize) -> Result<Store2, Row> {
+        let (mut store2, mut table2) = (Edition2::ZERO, vec![0; PLACE2_BYTES * places]);
+        let (store, n, table, m) = self.parts();
+        let (new, k) = (store2.as_mut_ptr(), store2.len());
+        // SAFETY: all are valid for their lengths, the new ones are borrowed for writing, and they overlap nothing.
+        taken(unsafe { ffi::sulgheti_migrate(store, n, table, m, new, k, table2.as_mut_ptr(), table2.len()) })?;
+        Ok(Store2 { store: store2, table: table2 })
+    }
+}
+
 /// An answer taken apart: a figure, or the refusing row below zero.
 fn taken(answer: i64) -> Result<usize, Row> {
     match answer {
@@ -596,7 +642,7 @@ pub struct Row(pub u8);
 const TEXTS: [(&str, &str); 22] = [
     ("the desk or its table does not hold what a desk can hold", "the memory lent to the desk was overwritten: begin with a fresh desk and load the list again"),
     ("the list has under 4 bytes or does not begin with 4C 53 or, in edition 2, 4C 32; or it is loaded and of the other edition than the desk, or converted and already of the edition asked for", "is this a list at all? give its bytes from the first on; load it into a desk of its own edition; upgrade edition 1, downgrade edition 2"),
-    ("the list has more than 512 sites, or more than the desk's table has places; or a site is added and there is no place left", "split the list, or lend a longer table"),
+    ("the list has more than 512 sites, or more than the desk's table has places; or a site is added and there is no place left; or a desk goes over to a table with fewer places than it has sites", "split the list, or lend a longer table"),
     ("the list's length is not 4 + 6 x sites or, in edition 2, 4 + 8 x sites", "it was cut off, something follows it, or the count is wrong"),
     ("a site does not begin with 53 54 or, in edition 2, 53 32", "a record is damaged or has not 6 bytes (edition 2: 8): write the list again"),
     ("a site names a depot above 63", "number the depots from 0 to 63"),

@@ -1,5 +1,5 @@
 /* A desk with T: its list is written out, its plan is held, its figures are answered, and an added site drops it; the list goes into another desk and out again.
- * And a desk of edition 2 with a site of 70,000 litres, beside one of edition 1. */
+ * And a desk of edition 2 with a site of 70,000 litres, beside one of edition 1. And a desk of edition 1 that goes over to edition 2 with its plan. */
 #include <string.h>
 
 #include "sulgheti.h"
@@ -114,9 +114,70 @@ static int edition2(void) {
     return sulgheti_depot(store, sizeof store, table, sizeof table, 0, &x, &y) == SULGHETI_CORRUPT ? 0 : 37;
 }
 
+static int goes_over(void) {
+    const uint8_t list[] = {0x4C, 0x53, 1, 0, 0x53, 0x54, 0, 1, 10, 0};
+    const uint8_t plan[] = {0x50, 0x4C, 1, 1, 0, 0x47, 0x52, 3, 0, 0, 0, 0, 0, 0, 0, 0x53, 0x48, 10, 0, 0, 0};
+    const uint8_t list2[] = {0x4C, 0x32, 1, 0, 0x53, 0x32, 0, 1, 10, 0, 0, 0};
+    const uint8_t plan2[] = {0x50, 0x32, 1, 1, 0, 0x47, 0x52, 3, 0, 0, 0, 0, 0, 0, 0, 0x53, 0x33, 10, 0, 0, 0, 0, 0, 0, 0};
+    uint8_t old[SULGHETI_STORE_BYTES], places[4 * SULGHETI_PLACE_BYTES], kept[SULGHETI_STORE_BYTES], kept_places[sizeof places];
+    uint8_t store[SULGHETI_STORE2_BYTES], table[2 * SULGHETI_PLACE2_BYTES + 1], out[SULGHETI_PLAN2_MAX];
+    uint64_t x = 0, y = 0, set = 99;
+    int64_t d = 1;
+    memset(places, 0xA5, sizeof places);
+    if (sulgheti_fresh(old, sizeof old) != 0 || sulgheti_load(old, sizeof old, places, sizeof places, list, sizeof list) != 0) return 1;
+    if (sulgheti_propose(old, sizeof old, places, sizeof places, plan, sizeof plan) != 0) return 2;
+    memcpy(kept, old, sizeof old);
+    memcpy(kept_places, places, sizeof places);
+    memset(store, 0x77, sizeof store);
+    memset(table, 0x78, sizeof table);
+    /* too few places; a store of another length, or of the other edition */
+    if (sulgheti_migrate(old, sizeof old, places, sizeof places, store, sizeof store, table, 0) != -2) return 3;
+    if (sulgheti_migrate(old, sizeof old, places, sizeof places, store, sizeof store, table, SULGHETI_PLACE2_BYTES - 1) != -2) return 4;
+    if (sulgheti_migrate(old, sizeof old - 1, places, sizeof places, store, sizeof store, table, sizeof table) != SULGHETI_NO_STORE) return 5;
+    if (sulgheti_migrate(old, sizeof old, places, sizeof places, store, sizeof store - 1, table, sizeof table) != SULGHETI_NO_STORE) return 6;
+    if (sulgheti_migrate(old, sizeof old, places, sizeof places, store, SULGHETI_STORE_BYTES, table, sizeof table) != SULGHETI_NO_STORE) return 7;
+    if (store[0] != 0x77 || memcmp(store, store + 1, sizeof store - 1) != 0 || table[0] != 0x78 || memcmp(table, table + 1, sizeof table - 1) != 0) return 8;
+    /* the step: the site in front of the table, the other place and the byte behind it as they were */
+    if (sulgheti_migrate(old, sizeof old, places, sizeof places, store, sizeof store, table, sizeof table) != 0) return 9;
+    if (memcmp(table, "\x00\x01\x0A\x00\x00\x00\x78\x78\x78\x78\x78\x78\x78", sizeof table) != 0) return 10;
+    if (memcmp(kept, old, sizeof old) != 0 || memcmp(kept_places, places, sizeof places) != 0) return 11;
+    if (sulgheti_depot(store, sizeof store, table, sizeof table, 0, &x, &y) != 0 || x != 10 || y != 2) return 12;
+    if (sulgheti_share(store, sizeof store, table, sizeof table, 0, &x, &y) != 0 || x != 10 || y != 20) return 13;
+    if (sulgheti_difference(store, sizeof store, table, sizeof table, 0, 1, &d, &y) != 0 || d != 0 || y != 4) return 14;
+    if (sulgheti_at_least(store, sizeof store, table, sizeof table, 5, &set) != 0 || set != 3) return 15;
+    memset(out, 0xA5, sizeof out);
+    if (sulgheti_written(store, sizeof store, table, sizeof table, out, sizeof plan2 - 1) != -20 || out[0] != 0xA5) return 16;
+    if (sulgheti_written(store, sizeof store, table, sizeof table, out, sizeof plan2) != (int64_t)sizeof plan2 || memcmp(out, plan2, sizeof plan2) != 0) return 17;
+    if (sulgheti_list(store, sizeof store, table, sizeof table, out, sizeof list2 - 1) != -20 || memcmp(out, plan2, sizeof plan2) != 0) return 18;
+    if (sulgheti_list(store, sizeof store, table, sizeof table, out, sizeof list2) != (int64_t)sizeof list2 || memcmp(out, list2, sizeof list2) != 0) return 19;
+    /* from there on edition 2; it does not go over again */
+    uint8_t again[SULGHETI_STORE2_BYTES];
+    if (sulgheti_migrate(store, sizeof store, table, sizeof table, again, sizeof again, out, sizeof out) != SULGHETI_NO_STORE) return 20;
+    if (sulgheti_load(store, sizeof store, table, sizeof table, list, sizeof list) != -1) return 21;
+    if (sulgheti_propose(store, sizeof store, table, sizeof table, plan, sizeof plan) != -7) return 22;
+    if (sulgheti_add(store, sizeof store, table, sizeof table, 1, 2, 1) != SULGHETI_NO_STORE) return 23;
+    if (sulgheti_propose(store, sizeof store, table, sizeof table, plan2, sizeof plan2) != 0) return 24;
+    if (sulgheti_add2(store, sizeof store, table, sizeof table, 1, 2, 70000) != 0 || sulgheti_add2(store, sizeof store, table, sizeof table, 1, 2, 1) != -2) return 25;
+    if (sulgheti_depot(store, sizeof store, table, sizeof table, 0, &x, &y) != -17 || table[sizeof table - 1] != 0x78) return 26;
+    /* the old desk goes on as it was, and may go over once more, without a plan; then it is corrupt, whatever the places */
+    if (sulgheti_share(old, sizeof old, places, sizeof places, 0, &x, &y) != 0 || x != 10 || y != 20) return 27;
+    if (sulgheti_change(old, sizeof old, places, sizeof places, 0, 11) != 0) return 28;
+    if (sulgheti_migrate(old, sizeof old, places, sizeof places, store, sizeof store, table, SULGHETI_PLACE2_BYTES) != 0) return 29;
+    if (store[0] != 1 || store[1] != 0 || memcmp(store + 1, store + 2, sizeof store - 2) != 0) return 30;
+    if (memcmp(table, "\x00\x01\x0B\x00\x00\x00\x01\x02\x70\x11\x01\x00\x78", sizeof table) != 0) return 31;
+    if (sulgheti_depot(store, sizeof store, table, SULGHETI_PLACE2_BYTES, 0, &x, &y) != -17) return 32;
+    memcpy(again, store, sizeof store);
+    places[0] = 64;
+    if (sulgheti_migrate(old, sizeof old, places, sizeof places, store, sizeof store, table, sizeof table) != SULGHETI_CORRUPT) return 33;
+    if (sulgheti_migrate(old, sizeof old, places, sizeof places, store, sizeof store, table, 0) != SULGHETI_CORRUPT) return 34;
+    return memcmp(again, store, sizeof store) == 0 && table[2] == 11 ? 0 : 35;
+}
+
 int main(void) {
     const int failed = edition1();
     if (failed != 0) return failed;
     const int failed2 = edition2();
-    return failed2 == 0 ? 0 : 100 + failed2;
+    if (failed2 != 0) return 100 + failed2;
+    const int stayed = goes_over();
+    return stayed == 0 ? 0 : 200 + stayed;
 }

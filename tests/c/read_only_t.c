@@ -1,6 +1,7 @@
 /* A desk of each edition in memory that cannot be written: questions and refused calls are answered and the list is written out, with and without
  * a plan held, for they write neither store nor table. And in memory that cannot be read either, a store of another length: every call is refused,
- * and by fresh, change and add a store of the other edition. Then a list and a plan in memory that cannot be written: they are converted, and where
+ * and by fresh, change and add a store of the other edition. Then a desk of edition 1 in memory that cannot be written: it goes over to edition 2, and
+ * where that is refused nothing is written. Then a list and a plan in memory that cannot be written: they are converted, and where
  * that is refused nothing is written; where the list is refused the plan is not read. */
 #define _DEFAULT_SOURCE
 #include <string.h>
@@ -168,7 +169,40 @@ static int conversions(int of) {
     return convert_list(of, list, n, list_out, to_n - 1) == (of ? -21 : -20) ? 0 : 22;
 }
 
+/* 0, or which answer of a step to edition 2 is another. */
+static int goes_over(void) {
+    enum { PART = 8192, PARTS = 4 * PART };
+    uint8_t *parts = mmap(0, PARTS, PROT_READ | PROT_WRITE, MAP_PRIVATE | MAP_ANONYMOUS, -1, 0);
+    if (parts == MAP_FAILED) return 1;
+    uint8_t *store = parts, *table = parts + PART, *store2 = parts + 2 * PART, *table2 = parts + 3 * PART;
+    const size_t n = SULGHETI_STORE_BYTES, m = 2 * SULGHETI_PLACE_BYTES, k = SULGHETI_STORE2_BYTES, l = SULGHETI_PLACE2_BYTES;
+    uint64_t x = 0, y = 0;
+    if (sulgheti_fresh(store, n) != 0 || sulgheti_load(store, n, table, m, editions[0].list, editions[0].list_len) != 0) return 2;
+    /* the old desk is only read, without a plan and with one */
+    if (mprotect(parts, 2 * PART, PROT_READ) != 0 || sulgheti_migrate(store, n, table, m, store2, k, table2, l) != 0) return 3;
+    if (sulgheti_share(store2, k, table2, l, 0, &x, &y) != -17) return 4;
+    if (mprotect(store, PART, PROT_READ | PROT_WRITE) != 0 || sulgheti_propose(store, n, table, m, editions[0].plan, editions[0].plan_len) != 0) return 5;
+    if (mprotect(store, PART, PROT_READ) != 0 || sulgheti_migrate(store, n, table, m, store2, k, table2, l) != 0) return 6;
+    if (sulgheti_share(store2, k, table2, l, 0, &x, &y) != 0 || x != 10 || y != 20) return 7;
+    /* refused: nothing is written; too few places, a table of no place, the two together */
+    if (mprotect(parts, PARTS, PROT_READ) != 0) return 8;
+    if (sulgheti_migrate(store, n, table, m, store2, k, table2, l - 1) != -2 || sulgheti_migrate(store, n, table, m, store2, k, table2, 0) != -2) return 9;
+    if (sulgheti_migrate(store, n, table, 0, store2, k, table2, l) != SULGHETI_CORRUPT || sulgheti_migrate(store, n, table, 3, store2, k, table2, 0) != SULGHETI_CORRUPT) return 10;
+    /* an old store that is none of edition 1, a new one that is none of edition 2: nothing is even read */
+    if (mprotect(parts, PARTS, PROT_NONE) != 0) return 11;
+    const size_t lengths[] = {0, 1, n - 1, n + 1, k - 1, k + 1, PART};
+    for (size_t i = 0; i < sizeof lengths / sizeof *lengths; i++) {
+        if (sulgheti_migrate(store, lengths[i], table, m, store2, k, table2, l) != SULGHETI_NO_STORE) return 12;
+        if (sulgheti_migrate(store, n, table, m, store2, lengths[i], table2, l) != SULGHETI_NO_STORE) return 13;
+    }
+    if (sulgheti_migrate(store, k, table, m, store2, k, table2, l) != SULGHETI_NO_STORE) return 14;
+    if (sulgheti_migrate(store, k, table, m, store2, n, table2, l) != SULGHETI_NO_STORE) return 15;
+    return sulgheti_migrate(store, n, table, m, store2, n, table2, l) == SULGHETI_NO_STORE ? 0 : 16;
+}
+
 int main(void) {
+    const int stayed = goes_over();
+    if (stayed != 0) return 200 + stayed;
     for (int of = 0; of < 2; of++) {
         const int failed = edition(of);
         if (failed != 0) return 100 * of + failed;

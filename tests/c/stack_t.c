@@ -16,10 +16,11 @@
 #include "sulgheti.h"
 
 /* What the calls are given; the buffers stand at odd addresses, since no alignment is asked of them. */
-static uint64_t rooms[6][800];
+static uint64_t rooms[8][800];
 static uint8_t *const store = (uint8_t *)rooms[0] + 1, *const table = (uint8_t *)rooms[1] + 1, *const list = (uint8_t *)rooms[2] + 1;
 static uint8_t *const plan = (uint8_t *)rooms[3] + 1, *const out = (uint8_t *)rooms[4] + 1, *const plan_out = (uint8_t *)rooms[5] + 1;
-static size_t store_len, table_len, out_len, plan_out_len, written_len, list_len, plan_len, site;
+static uint8_t *const store2 = (uint8_t *)rooms[6] + 1, *const table2 = (uint8_t *)rooms[7] + 1;
+static size_t store_len, table_len, out_len, plan_out_len, written_len, list_len, plan_len, site, store2_len = SULGHETI_STORE2_BYTES, table2_len;
 static uint8_t first, second;
 static uint32_t litres, mark;
 static uint64_t x, y;
@@ -47,11 +48,12 @@ static int64_t difference(void) { return sulgheti_difference(DESK, first, second
 static int64_t written(void) { return sulgheti_written(DESK, out, out_len); }
 static int64_t at_least(void) { return sulgheti_at_least(DESK, mark, &x); }
 static int64_t list_out(void) { return sulgheti_list(DESK, out, out_len); }
+static int64_t migrate(void) { return sulgheti_migrate(DESK, store2, store2_len, table2, table2_len); }
 
 /* Those that serve either edition, beside the two that convert from edition 1 and the two from edition 2; then the three of edition 1 and the three
- * of edition 2. Those of the editions stand in one order. */
+ * of edition 2. Those of the editions stand in one order. Then the step from edition 1 to edition 2. */
 enum { CHECK, MAKE, UPGRADE_LIST, UPGRADE_PLAN, DOWNGRADE_LIST, DOWNGRADE_PLAN, LOAD, PROPOSE, SHARE, DEPOT, DIFFERENCE, WRITTEN, AT_LEAST, LIST,
-       FRESH, CHANGE, ADD, FRESH2, CHANGE2, ADD2, CALLS };
+       FRESH, CHANGE, ADD, FRESH2, CHANGE2, ADD2, MIGRATE, CALLS };
 enum { EACH = FRESH2 - FRESH, WAY = DOWNGRADE_LIST - UPGRADE_LIST };
 static struct {
     const char *name;
@@ -67,6 +69,7 @@ static struct {
     {"at_least", at_least, SULGHETI_STACK_QUESTION, {0}}, {"list", list_out, SULGHETI_STACK_QUESTION, {0}},
     {"fresh", fresh, SULGHETI_STACK_FRESH, {0}}, {"change", change, SULGHETI_STACK_DESK, {0}}, {"add", add, SULGHETI_STACK_DESK, {0}},
     {"fresh2", fresh2, SULGHETI_STACK_FRESH, {0}}, {"change2", change2, SULGHETI_STACK_DESK, {0}}, {"add2", add2, SULGHETI_STACK_DESK, {0}},
+    {"migrate", migrate, SULGHETI_STACK_DESK, {0}},
 };
 
 /* The editions: marks of list, site, plan and share, bytes of litres and of s, sizes; the most litres, and litres of 64 figures that fall
@@ -187,6 +190,7 @@ static void desk_refused(int code) {
     for (int call = PROPOSE; call < FRESH; call++) EXPECT(call, code);
     EXPECT_OWN(CHANGE, code);
     EXPECT_OWN(ADD, code);
+    EXPECT(MIGRATE, two ? SULGHETI_NO_STORE : code);
 }
 
 /* Fresh, change and add of the other edition, whatever the store holds. */
@@ -248,6 +252,31 @@ static void converted(void) {
     out_len = e->plan_max, plan_out_len = SULGHETI_PLAN2_MAX;
 }
 
+/* From edition 1 the desk goes over, with the plan that it holds or without one, into 512 places; 511 are too few, and a new store has its length. */
+static void goes_over(void) {
+    enum { SETS = 24 + 8 * 64 };
+    table2_len = 512 * SULGHETI_PLACE2_BYTES;
+    if (two) {
+        EXPECT(MIGRATE, SULGHETI_NO_STORE);
+        return;
+    }
+    memset(store2, 0x77, store2_len);
+    table2_len -= 1;
+    EXPECT(MIGRATE, -2);
+    table2_len += 1, store2_len -= 1;
+    EXPECT(MIGRATE, SULGHETI_NO_STORE);
+    store2_len = SULGHETI_STORE_BYTES;
+    EXPECT(MIGRATE, SULGHETI_NO_STORE);
+    store2_len = SULGHETI_STORE2_BYTES;
+    if (store2[0] != 0x77 || memcmp(store2, store2 + 1, store2_len - 1) != 0) exit(10);
+    EXPECT(MIGRATE, 0);
+    if (memcmp(store2, store, SETS) != 0) exit(11);
+    for (unsigned i = 0; i < 512; i++) {
+        if (memcmp(store2 + SETS + 8 * i, store + SETS + 4 * i, 4) != 0 || memcmp(store2 + SETS + 8 * i + 4, "\0\0\0", 4) != 0) exit(12);
+        if (memcmp(table2 + SULGHETI_PLACE2_BYTES * i, table + SULGHETI_PLACE_BYTES * i, 4) != 0 || memcmp(table2 + SULGHETI_PLACE2_BYTES * i + 4, "\0", 2) != 0) exit(13);
+    }
+}
+
 static void edition(const struct edition *of) {
     e = of, two = of != editions, other = &editions[1 - two];
     plan_out_len = SULGHETI_PLAN2_MAX;
@@ -267,7 +296,9 @@ static void edition(const struct edition *of) {
         EXPECT(LOAD, 0);
         questions_refused(17);
         listed();
+        goes_over();
         EXPECT(PROPOSE, 0);
+        goes_over();
         for (first = 0; first < 64; first++) {
             site = 8 * first + 7u;
             second = (uint8_t)(63 - first);

@@ -1,6 +1,6 @@
 //! The plain book of document 01: a list, a plan or none, and the rows in the paper's order; before them the
 //! store's length, which is no row. With document 02's question a, the depots at or over a mark, its call b, the list
-//! written out, and its editions (c).
+//! written out, its editions (c), and its step of a desk of edition 1 to edition 2 (e).
 
 use crate::decompose::by_cuts;
 use crate::records::{list_bytes, listed, number, plan_bytes, Edition, Plan, Site, EDITIONS, ONE, TWO};
@@ -284,6 +284,15 @@ impl Book {
                 Ok(Told::Wrote(bytes))
             }
         }
+    }
+
+    /// The step to edition 2 and a new table: row 2 for too few places; otherwise "the book keeps its list and plan, now in
+    /// edition 2, from there on with the new table and its places".
+    pub fn migrated(&self, places: usize) -> Result<Book, u8> {
+        if places < self.list.len() {
+            return Err(2);
+        }
+        Ok(Book { edition: TWO, places, ..self.clone() })
     }
 
     /// The store as bytes: sites, whether a plan is held, groups, 64 sets, 512 shares; zero beyond what is held.

@@ -35,7 +35,8 @@ const ROWS: [&[usize]; 10] = [
 ];
 
 /// Lengths of no store, around those of a store of either edition and of its parts.
-const LENGTHS: [usize; 15] = [0, 1, 8, 24, 536, 2_583, 2_585, 2_588, 3_608, 4_631, 4_633, 4_640, 5_168, 7_216, 10_000];
+pub const LENGTHS: [usize; 15] =
+    [0, 1, 8, 24, 536, 2_583, 2_585, 2_588, 3_608, 4_631, 4_633, 4_640, 5_168, 7_216, 10_000];
 
 /// The rows of the table that some call never answered: edition, call, row.
 pub fn missing(seen: &Seen) -> Vec<(usize, usize, usize)> {
@@ -49,14 +50,14 @@ pub fn missing(seen: &Seen) -> Vec<(usize, usize, usize)> {
 
 /// The bytes of a desk and its table.
 #[derive(Clone)]
-struct Bytes {
-    store: Vec<u8>,
-    table: Vec<u8>,
+pub struct Bytes {
+    pub store: Vec<u8>,
+    pub table: Vec<u8>,
 }
 
 impl Bytes {
     /// A fresh desk over any bytes, and a table of so many places and bytes behind them, of any content.
-    fn fresh(run: &mut Run, e: Edition, places: usize) -> Bytes {
+    pub fn fresh(run: &mut Run, e: Edition, places: usize) -> Bytes {
         let junk: Vec<u8> = (0..e.store_bytes()).map(|_| run.rng.byte()).collect();
         let mut store = Lent::new(&mut run.rng, &junk, &[]);
         if lent::fresh(e, &mut store) != 0 || !store.kept_around() || store.bytes() != Book::new(e, places).store() {
@@ -72,7 +73,7 @@ impl Bytes {
         sized(&self.store).unwrap_or(ONE)
     }
 
-    fn places(&self) -> usize {
+    pub fn places(&self) -> usize {
         self.table.len() / self.edition().place_bytes()
     }
 }
@@ -81,7 +82,7 @@ impl Bytes {
 /// store, of the table and of the buffer, and the guards around them. `book` is the book before the call, or what
 /// the bytes are refused by: no store by every call, row 0 by every call but load. Before the book a call of the other
 /// edition is refused.
-fn call(run: &mut Run, desk: &mut Bytes, book: &mut Result<Book, Refusal>, call: &Call, seen: &mut Seen) {
+pub fn call(run: &mut Run, desk: &mut Bytes, book: &mut Result<Book, Refusal>, call: &Call, seen: &mut Seen) {
     run.cases += 1;
     let expected = match (&mut *book, call) {
         _ if served(&desk.store, call).is_err() => Err(Refusal::NoStore),
@@ -265,7 +266,7 @@ fn proposed(run: &mut Run, book: &Book, old: &mut Vec<u8>) -> Vec<u8> {
 
 /// A mark in litres: at the W/q of a group, rounded down or up, one beside it, and where a product or a comparison in
 /// fewer bits would take it for a lower one; the ends; any other.
-fn mark(run: &mut Run, book: &Book) -> u32 {
+pub fn mark(run: &mut Run, book: &Book) -> u32 {
     let figures = if book.plan.is_some() { book.clone().figures() } else { Vec::new() };
     let (litres, size) = if figures.is_empty() { (0, 1) } else { *run.rng.pick(&figures) };
     let (down, up) = (litres / size, litres.div_ceil(size));
@@ -287,7 +288,7 @@ fn mark(run: &mut Run, book: &Book) -> u32 {
 }
 
 /// A call of any kind, for a desk whose book is known.
-fn any_call(run: &mut Run, book: &Book, old: &mut Vec<u8>, most: usize, depots: usize) -> Call {
+pub fn any_call(run: &mut Run, book: &Book, old: &mut Vec<u8>, most: usize, depots: usize) -> Call {
     let n = book.list.len();
     let near = n + 2;
     let depot = |run: &mut Run| if run.rng.percent(4) { run.rng.byte() } else { run.rng.below(depots + 1) as u8 };
@@ -323,7 +324,7 @@ fn near_length(run: &mut Run, length: usize) -> usize {
 }
 
 /// A history: so many calls from a fresh desk and a table of any content.
-fn history(
+pub fn history(
     run: &mut Run,
     e: Edition,
     places: usize,
@@ -346,7 +347,7 @@ fn history(
 /// The desk and table with some of their bytes changed: the figures of the store, a place, any bytes, or its length, also
 /// to the other edition's; or litres with the share of their site, so that row 0 lets the plan through, whose groups may
 /// then rise.
-fn foreign(run: &mut Run, desk: &Bytes) -> Bytes {
+pub fn foreign(run: &mut Run, desk: &Bytes) -> Bytes {
     let e = desk.edition();
     let mut desk = desk.clone();
     let put = |bytes: &mut Vec<u8>, at: usize, with: &[u8]| bytes[at..at + with.len()].copy_from_slice(with);
@@ -545,12 +546,12 @@ fn ask(run: &mut Run, desk: &mut Bytes, book: &mut Result<Book, Refusal>, asked:
 }
 
 /// What the book answers to a call; it stays as it is.
-fn told(book: &Result<Book, Refusal>, call: &Call) -> Result<Told, Refusal> {
+pub fn told(book: &Result<Book, Refusal>, call: &Call) -> Result<Told, Refusal> {
     book.clone()?.answer(call).map_err(Refusal::Row)
 }
 
 /// A call whose answer is known here: the book's is the same.
-fn expect(
+pub fn expect(
     run: &mut Run,
     desk: &mut Bytes,
     book: &mut Result<Book, Refusal>,
@@ -725,7 +726,7 @@ fn corrupted(run: &mut Run, desk: &Bytes, count: usize, seen: &mut Seen) {
 }
 
 /// T as a list of an edition and its plan, and a desk that holds both.
-fn holding_t(run: &mut Run, e: Edition, seen: &mut Seen) -> (Vec<u8>, Vec<u8>, Bytes, Result<Book, Refusal>) {
+pub fn holding_t(run: &mut Run, e: Edition, seen: &mut Seen) -> (Vec<u8>, Vec<u8>, Bytes, Result<Book, Refusal>) {
     let (list, plan) = known::t(e);
     let mut desk = Bytes::fresh(run, e, 3);
     let mut book = Ok(Book::new(e, 3));

@@ -125,6 +125,15 @@ pub fn desk(call: &Call, store: &mut Lent, table: &mut Lent, given: &Lent, buffe
     r
 }
 
+/// The step of a store and its table, which are only read, to edition 2.
+pub fn migrate(store: &Lent, table: &Lent, store2: &mut Lent, table2: &mut Lent) -> i64 {
+    let (k, l) = (store2.len, table2.len);
+    // SAFETY: all are valid for their lengths and do not overlap.
+    unsafe {
+        ffi::sulgheti_migrate(store.at(), store.len, table.at(), table.len, store2.at_mut(), k, table2.at_mut(), l)
+    }
+}
+
 /// A fresh store by the function of an edition.
 pub fn fresh(e: Edition, store: &mut Lent) -> i64 {
     // SAFETY: the store is valid for its length.

@@ -4,8 +4,9 @@
 //!
 //! First what is fixed: document 01's lists and examples, every byte of small inputs changed, all small
 //! networks with all plans, the largest lists, every pair of rows. Then random cases, N in all; lists and plans that are
-//! converted, N / 4 at random beside what is fixed; and desk calls, a quarter as many and at least 60,000. Each is done
-//! in both editions, or its cases are shared between them.
+//! converted, N / 4 at random beside what is fixed; desk calls, a quarter as many and at least 60,000, in both editions;
+//! and as many around steps of desks of edition 1 to edition 2. The others are done in both editions too, or their cases
+//! are shared between them.
 
 use std::time::Instant;
 
@@ -15,6 +16,7 @@ use engine_tests::decompose::shares;
 use engine_tests::desk;
 use engine_tests::families::{extent, random, scattered, union, Extent, FAMILIES, LARGEST};
 use engine_tests::known;
+use engine_tests::migrate;
 use engine_tests::near::{miss, next_season};
 use engine_tests::records::{list_bytes, listed, plan_bytes, site, Edition, Plan, Site, EDITIONS, ONE, TWO};
 use engine_tests::reference::read_plan;
@@ -60,6 +62,12 @@ fn main() {
     part("between editions", &mut run, &mut |run| convert::conversions(run, cases / 4));
     let mut seen = desk::NONE;
     part("desk", &mut run, &mut |run| seen = desk::histories(run, 60_000.max(cases / 4)));
+    let mut steps = migrate::NONE;
+    part("desks go over", &mut run, &mut |run| steps = migrate::steps(run, 60_000.max(cases / 4), &mut seen));
+    println!("to edition 2, steps by row (30: success, 31: no store): {}", by_row(&steps));
+    if let Some(row) = migrate::ROWS.iter().find(|&&row| steps[row] == 0) {
+        run.fail(&format!("a step to edition 2 never answered row {row} (30: success, 31: no store)"), &[]);
+    }
     for (edition, kind, row) in desk::missing(&seen) {
         let what = format!("edition {edition}, desk call {kind} never answered row {row} (30: success, 31: no store)");
         run.fail(&what, &[]);

@@ -1,24 +1,30 @@
--- A store call's answer as a code and figures, at bytes that have the length of a store and at others, and that a length that is answered fits. Assumes nothing.
-use Prim.Native.Nat.{ℕ, _*_, _<_, _^_}
-use mathlib.Core.Bool.{Bool, true, false, cond, not, false≢true}
+-- A store call's answer as a code and figures, and that of the step to edition 2, at bytes that have the length of a store and at others, and that a length that is answered fits.
+-- Assumes nothing.
+use Prim.Native.Nat.{ℕ, zero, suc, _*_, _<_, _^_}
+use mathlib.Core.Bool.{Bool, true, false, cond, not, _&&_, false≢true}
 use mathlib.Core.List.{List, []}
+use mathlib.Core.Option.{Option, none, some}
 use mathlib.Core.Path.{_≡_, refl, sym, ap, ap₂, _∙_}
 use native.Mathlib.Omega.{arith}
 use borrow.Author.Tests.{eq-eqb, ne-eqb, not-true, not-false}
 use lib.Dec.{lit<, lit≤}
-use lib.IntN.{ℤ, pos, negℤ}
+use lib.IntN.{ℤ, pos, negsuc, negℤ}
 use lib.ListN.{length}
 use Rattle.records.specs.declared.Edition.{Edition}
 use Rattle.records.specs.Bytes.{Bytes}
 use Rattle.records.specs.Format.{edition1, edition2}
-use Rattle.store.specs.Calls.{Call, Reply, Told, wrote}
+use Rattle.density.specs.declared.Site.{Site}
+use Rattle.held_state.specs.Held.{State}
+use Rattle.store.specs.Calls.{Call, Reply, Told, done, wrote}
 use Rattle.store.specs.Widths.{Fitting}
 use Rattle.store.proofs.Writers.{every-writer}
-use Rattle.store.specs.State.{step}
+use Rattle.store.specs.State.{step, migrateRow, migrateStep}
+use Rattle.layout.specs.Layout.{sitesIn}
 use Rattle.lent.specs.Lent.{Lent, stateIn, isOf, Called, Freshened}
+use Rattle.store_migrate_bytes.specs.Migrate.{migrates, Migrated}
 use Rattle.lent.proofs.Contracts.{laid-reply}
 use Rattle.codes.specs.declared.Coded.{Coded}
-use Rattle.codes.specs.Codes.{editionIn, rowCode, noStoreCode, doneCode, lengthCode, firstOf, secondOf, differenceOf, answerOf, Moved, Did, Figures, OneFigure, Differs, WroteOut, FreshCode}
+use Rattle.codes.specs.Codes.{editionIn, rowCode, noStoreCode, doneCode, lengthCode, firstOf, secondOf, differenceOf, answerOf, Moved, Did, Figures, OneFigure, Differs, WroteOut, FreshCode, MigrateCode}
 
 -- ---- codes of rows
 
@@ -146,3 +152,48 @@ length-held {e} {s} {t} {c = c} x room n h =
 -- a question for one figure is one for two, of which the second is not asked for
 pub one-figure : {e : Edition} {s t : List ℕ} {c : Call} {r : ℤ} {m n m' n' : ℕ} → Figures e s t c r m n m' n' → OneFigure e s t c r m m'
 one-figure f = record { code = f .code; figure = f .first; kept = f .kept }
+
+-- ---- document 02, e: the step to edition 2
+
+-- no row's code is 0
+row-told : (n : ℕ) → rowCode n ≡ pos 0 → ⊥
+row-told zero h = let z : _≡_ {A = ℕ} 0 1 = cc in omega arith
+row-told (suc n) h = let k : negsuc n ≡ pos 0 = other-code (suc n) (λ e. omega arith) ∙ h in let z : _≡_ {A = ℕ} 0 1 = cc in omega arith
+
+-- the step is answered 0 only where it is done
+over-done : (o : Option ℕ) (s : State) (table : List Site) → doneCode (migrateStep o s table .reply .answer) ≡ pos 0 → migrateStep o s table .reply .answer ≡ done
+over-done (some n) s table h = absurd (row-told n h)
+over-done none s table h = refl
+
+module _ {s t s₂ t₂ : List ℕ} where
+  not-migrated : (isOf edition1 s && isOf edition2 s₂) ≡ false → MigrateCode s t s₂ t₂ noStoreCode s₂ t₂
+  not-migrated other =
+      record {
+        code = rw other refl;
+        store = rw other refl;
+        table = rw other refl;
+        long = refl;
+        reads = λ h. absurd (let z : _≡_ {A = ℕ} 0 1 = cc in omega arith);
+      }
+
+  pub no-first : isOf edition1 s ≡ false → MigrateCode s t s₂ t₂ noStoreCode s₂ t₂
+  no-first a = not-migrated (ap (λ (x : Bool). x && isOf edition2 s₂) a)
+
+  pub no-second : isOf edition1 s ≡ true → isOf edition2 s₂ ≡ false → MigrateCode s t s₂ t₂ noStoreCode s₂ t₂
+  no-second a b = not-migrated (ap₂ (λ (x y : Bool). x && y) a b)
+
+  pub migrate-code : {s₂' t₂' : List ℕ} {a : Told} {r : ℤ} → isOf edition1 s ≡ true → isOf edition2 s₂ ≡ true → Migrated s t s₂ t₂ a s₂' t₂' → r ≡ doneCode a
+      → MigrateCode s t s₂ t₂ r s₂' t₂'
+  migrate-code {a = a} {r} first second x f =
+      let both : (isOf edition1 s && isOf edition2 s₂) ≡ true = ap₂ (λ (x y : Bool). x && y) first second in
+      let fresh = sitesIn (edition2 .litres) t₂ in
+      let old = stateIn edition1 s t in
+      let answer : a ≡ migrates s t t₂ .reply .answer =
+      ap (λ (l : Lent). l .reply .answer) (x .is) ∙ ap (λ (r : Reply). r .answer) (laid-reply edition2 s₂ t₂ (migrates s t t₂)) in
+      record {
+        code = rw both (f ∙ ap doneCode answer);
+        store = rw both (ap (λ (l : Lent). l .store) (x .is));
+        table = rw both (ap (λ (l : Lent). l .table) (x .is));
+        long = x .long;
+        reads = λ h. x .reads (answer ∙ over-done (migrateRow old fresh) old fresh (sym (f ∙ ap doneCode answer) ∙ h));
+      }

@@ -1,6 +1,6 @@
 -- Document 01, "Entry points", the desk: what the library for Rust and C answers to a call of the store, as one number and up to two figures.
 use Prim.Native.Nat.{ℕ}
-use mathlib.Core.Bool.{true, cond}
+use mathlib.Core.Bool.{true, cond, _&&_}
 use mathlib.Core.List.{List}
 use mathlib.Core.Path.{_≡_}
 use lib.Dec.{eqb}
@@ -12,7 +12,8 @@ use Rattle.records.specs.Format.{edition1, edition2}
 use Rattle.store.specs.Calls.{Call, Told, refused, done, shared, loaded, differ, wrote, reached}
 use Rattle.store.specs.State.{bare, step}
 use Rattle.layout.specs.Layout.{storeBytes, storeIn}
-use Rattle.lent.specs.Lent.{stateIn, isOf, call}
+use Rattle.lent.specs.Lent.{stateIn, isOf, laid, call}
+use Rattle.store_migrate_bytes.specs.Migrate.{migrates}
 use Rattle.codes.specs.declared.Coded.{Coded}
 
 -- The edition of a store, told by the length of its bytes: 4,632 are a store of edition 2. Bytes of another length are taken for a store of edition 1, and are none
@@ -127,3 +128,12 @@ pub record FreshCode (e : Edition) (s : List ℕ) (r : ℤ) (s' : List ℕ) : Ty
   pub code : r ≡ cond (isOf e s) (pos 0) noStoreCode
   pub store : s' ≡ cond (isOf e s) (storeBytes (e .share) (bare 0)) s
   pub reads : isOf e s ≡ true → storeIn (e .share) s' ≡ bare 0
+
+-- Document 02, e: the old store and its table are only read. What the step does to the bytes of the new store and table: where it is done, these stand for the state after it; where the old
+-- store has not the length of one of edition 1 or the new one that of one of edition 2, nothing is done.
+pub record MigrateCode (s t s₂ t₂ : List ℕ) (r : ℤ) (s₂' t₂' : List ℕ) : Type 0 where
+  pub code : r ≡ cond (isOf edition1 s && isOf edition2 s₂) (doneCode (migrates s t t₂ .reply .answer)) noStoreCode
+  pub store : s₂' ≡ cond (isOf edition1 s && isOf edition2 s₂) (laid edition2 s₂ t₂ (migrates s t t₂) .store) s₂
+  pub table : t₂' ≡ cond (isOf edition1 s && isOf edition2 s₂) (laid edition2 s₂ t₂ (migrates s t t₂) .table) t₂
+  pub long : length s₂' ≡ length s₂
+  pub reads : r ≡ pos 0 → stateIn edition2 s₂' t₂' ≡ migrates s t t₂ .after

@@ -15,7 +15,7 @@ ghost use Rattle.store.specs.declared.Request.the-variants as request;
 ghost use Rattle.store.specs.Trace.{ReadsOnly};
 ghost use Rattle.store.specs.Widths.{Fitting};
 ghost use Rattle.lent.specs.Lent.{isOf};
-ghost use Rattle.codes.specs.Codes.{editionIn, rowCode, lengthCode, outcomeOf, Did, Figures, Differs, WroteOut, FreshCode};
+ghost use Rattle.codes.specs.Codes.{editionIn, rowCode, lengthCode, outcomeOf, Did, Figures, Differs, WroteOut, FreshCode, MigrateCode};
 
 // A store's answer as numbers: its code, two figures and a difference.
 pub struct Coded {
@@ -246,4 +246,18 @@ pub fn wrote_out(e: Edition, store: &[u8], table: &[u8], request: Request, buffe
     }
     let a = lent::look(e, store, table, request, buffer);
     written(a)
+}
+
+// The step to edition 2: 0, or the row; -257 where the old store is none of edition 1 or the new one none of edition 2. The old store and its table are only read.
+pub fn migrate(store: &[u8], table: &[u8], store2: &mut [u8], table2: &mut [u8]) -> i64
+    ensures { λ r. ⌜ MigrateCode (now (store .entry)) (now (table .entry)) (now (store2 .entry)) (now (table2 .entry)) r (now (store2 .exit)) (now (table2 .exit)) ⌝ }
+{
+    if !is_store(edition1(), store) {
+        return -257;
+    }
+    if !is_store(edition2(), store2) {
+        return -257;
+    }
+    let a = store_migrate_bytes::migrate(store, table, store2, table2);
+    outcome(a, 0, 0, 0).code
 }

@@ -19,7 +19,7 @@ use Rattle.commands.specs.Commands.{ofBytes, ofNumber, ofDepot, ofLitres
 use Rattle.commands.specs.declared.Direction.{Direction}
 use Rattle.commands.specs.declared.Direction.the-variants as direction
 use Rattle.commands.specs.declared.Command.{Command}
-use Rattle.commands.specs.declared.Command.the-variants.{Bad, Table, Call, Written, Make, ListWritten, Table2, Convert, ConvertPlan}
+use Rattle.commands.specs.declared.Command.the-variants.{Bad, Table, Call, Written, Make, ListWritten, Table2, Convert, ConvertPlan, Migrate}
 
 -- r is what was read
 module _ {r : Number} where
@@ -84,7 +84,8 @@ within-one most name a =
     (either (is name "table2") (within-number (λ n. Table2 n) _ a (λ n h. fine h))
     (either (is name "load") (either (isBytes a) (fine tt) bad)
     (either (is name "propose") (either (isBytes a) (fine tt) bad)
-    (within-reads most name a))))
+    (either (is name "migrate") (within-number (λ n. Migrate n) _ a (λ n h. fine h))
+    (within-reads most name a)))))
 
 within-two : (most : ℕ) (name a b : List ℕ) → Fine most (twoWords most name a b)
 unfolding twoWords

@@ -14,7 +14,7 @@ use Rattle.store.specs.Widths.{Named}
 use Rattle.commands.specs.declared.Direction.{Direction}
 use Rattle.commands.specs.declared.Direction.the-variants as direction
 use Rattle.commands.specs.declared.Command.{Command}
-use Rattle.commands.specs.declared.Command.the-variants.{Blank, Bad, Table, Call, Written, Check, Make, ListWritten, Table2, Convert, ConvertPlan}
+use Rattle.commands.specs.declared.Command.the-variants.{Blank, Bad, Table, Call, Written, Check, Make, ListWritten, Table2, Convert, ConvertPlan, Migrate}
 
 -- the command where the word stands for bytes
 abbrev pub ofBytes : List ℕ → Command → Command
@@ -71,7 +71,9 @@ oneWord name a =
     (cond (is name "load") (ofBytes a (Call request.Load))
     -- propose PLAN
     (cond (is name "propose") (ofBytes a (Call request.Propose))
-    (reads name a))))
+    -- migrate N
+    (cond (is name "migrate") (ofPlaces a (λ n. Migrate n))
+    (reads name a)))))
 
 -- `upgrade` goes up and `downgrade` back (true); any other name has no direction
 unfoldable pub directionOf : List ℕ → Direction
@@ -145,3 +147,4 @@ Within most (ListWritten n) = n ≤ 8192
 Within most (Table2 n) = n ≤ 600
 Within most (Convert back n) = n ≤ 8192
 Within most (ConvertPlan back n m) = (n ≤ 8192) × (m ≤ 8192)
+Within most (Migrate n) = n ≤ 600

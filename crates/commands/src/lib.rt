@@ -6,7 +6,7 @@ ghost use mathlib.Core.List.{_∷_};
 ghost use Rattle.script.specs.Decimal.{numberOf};
 ghost use Rattle.script.specs.Words.{wordsOf};
 ghost use Rattle.commands.specs.Commands.{ofBytes, ofSite, ofDepot, ofLitres, ofThreshold, ofPlaces, ofSize, reads, oneWord, directionOf, twoWords, threeWords, fourWords, callOf, commandOf};
-ghost use Rattle.commands.specs.declared.Command.the-variants.{Table, Call, Written, Check, Make, ListWritten, Table2, Convert, ConvertPlan};
+ghost use Rattle.commands.specs.declared.Command.the-variants.{Table, Call, Written, Check, Make, ListWritten, Table2, Convert, ConvertPlan, Migrate};
 ghost use Rattle.store.specs.declared.Request.the-variants.{Share, Depot, Change, Difference, Add, AtLeast};
 
 // What a line asks for. A `Call` is a call of the desk; `written` and `list`, which take a buffer, have variants of their own.
@@ -23,6 +23,7 @@ pub enum Command {
     Table2(usize),
     Convert(bool, usize),
     ConvertPlan(bool, usize, usize),
+    Migrate(usize),
 }
 
 // The direction between editions that a name stands for: back where the flag is true. Other names have none.
@@ -60,6 +61,16 @@ fn table2(text: &[u8]) -> Command
 {
     match script::decimal(text, PLACES) {
         Number::Value(n) => Command::Table2(n as usize),
+        Number::Bad => Command::Bad,
+    }
+}
+
+// migrate N
+fn migrate(text: &[u8]) -> Command
+    ensures { λ r. ⌜ r ≡ ofPlaces (now (text .entry)) (λ n. Migrate n) ⌝ }
+{
+    match script::decimal(text, PLACES) {
+        Number::Value(n) => Command::Migrate(n as usize),
         Number::Bad => Command::Bad,
     }
 }
@@ -162,6 +173,9 @@ fn one_word(name: &[u8], word: &[u8]) -> Command
     }
     if check::same(name, b"propose") {
         return given(word, Command::Call(Request::Propose));
+    }
+    if check::same(name, b"migrate") {
+        return migrate(word);
     }
     reads(name, word)
 }

@@ -26,7 +26,9 @@
 //   atleast LITRES             `set` and the eight bytes, as in a plan's group, of the depots whose W/q is at least so many litres, a number up to 4,294,967,295
 //   written LEN                the held plan in a buffer as for `make`: `length` and its length, or `refused` and the row, and then the whole buffer
 //   list LEN                   the held list likewise, with a plan or without one
+//   migrate N                  a desk of edition 1 goes over to edition 2 and a new table of N places, at most 600, all zero before, with its sites and its plan or the lack of one: `done`
 //
+// A refused `migrate` leaves the old desk and its table. On a desk of edition 2 it is a bad line.
 // A desk takes lists and plans of its own edition. A depot is a number up to 255, a site up to 2^64 - 1.
 // The litres of `change` and `add` are a number up to 65,535 on a desk of edition 1, and up to 4,294,967,295 on one of edition 2.
 // Bytes are hexadecimal, of either case, without spaces, `-` for none; they are printed in upper case. Numbers are decimal. Words stand apart by one or more spaces, and spaces before the first and behind the last are passed over.
@@ -45,6 +47,8 @@ use store::Answer;
 use store::Request;
 use tables::Verdict;
 ghost use mathlib.Core.Path.{_≡_};
+ghost use mathlib.Core.Bool.{true};
+ghost use mathlib.Core.Logic.{_⊎_};
 ghost use Prim.Native.Nat.{ℕ, _+_, _*_, _≤_, _^_};
 ghost use lib.IntN.{natAbs};
 ghost use Rattle.io.specs.Counts.{Counts};
@@ -54,7 +58,7 @@ ghost use Rattle.layout.specs.Layout.{storeSize};
 ghost use Rattle.records.specs.Write.{WrittenOf};
 ghost use Rattle.records.specs.Files.{WrittenBoth};
 ghost use Rattle.converter.specs.Convert.{way, convertList, convertPlan};
-ghost use Rattle.console.specs.Editions.{editionAt};
+ghost use Rattle.console.specs.Editions.{editionAt, deskAfter};
 
 // The bytes of a store and of its table, of edition 2 if `second` is true and else of edition 1, and how many places the table has: at most 600.
 // In edition 2 a store has 4,632 bytes and a place 6; in edition 1 a store has the first 2,584 bytes, and a place 4.
@@ -370,6 +374,55 @@ fn called(desk: Desk, request: Request, input: &[u8], buffer: &mut [u8]) -> Desk
     }
 }
 
+// The desk behind a step that is so answered: the new one where it is done, and else the old one.
+fn desk_after(answer: Answer, old: Desk, new: Desk) -> Desk
+    ensures { λ r. ⌜ r ≡ deskAfter answer old new ⌝ }
+{
+    match answer {
+        Answer::Done => new,
+        _ => old,
+    }
+}
+
+// The step of a desk of edition 1 to edition 2 and a new table of so many places, and its answer: the entry over lent bytes, which the library exports.
+fn migrated(desk: Desk, places: usize) -> Desk
+    requires { ⌜ places ≤ 600 ⌝ }
+    ensures { λ r. ⌜ (r ≡ desk) ⊎ ((r .second ≡ true) × (r .places ≡ places)) ⌝ }
+{
+    let store = desk.store;
+    let table = desk.table;
+    let n = table_bytes(false, desk.places);
+    let mut store2 = [0u8; 4632];
+    let mut table2 = [0u8; 3600];
+    let answer = store_migrate_bytes::migrate(
+        &store[..2584],
+        &table[..n],
+        &mut store2,
+        &mut table2[..6 * places],
+    );
+    print_answer(answer);
+    end_answer();
+    let new = Desk {
+        second: true,
+        places,
+        store: store2,
+        table: table2,
+    };
+    desk_after(answer, desk, new)
+}
+
+// migrate N
+fn run_migrate(desk: Desk, places: usize) -> Desk
+    requires { ⌜ places ≤ 600 ⌝ }
+    ensures { λ r. ⌜ (desk .second ≡ true → r ≡ desk) ⌝ }
+{
+    if desk.second {
+        bad();
+        return desk;
+    }
+    migrated(desk, places)
+}
+
 // Puts the input of a call at the front of `out`, and answers how long it is: `load` and `propose` have one, in hexadecimal.
 fn input_of(request: Request, args: &[u8], out: &mut [u8]) -> usize
     ensures { λ r. ⌜ Counts r (now (out .exit)) ⌝ }
@@ -413,6 +466,7 @@ fn run_line(desk: Desk, line: &[u8]) -> Desk {
         Command::Written(n) => run_call(desk, Request::Written, script::rest(line), n),
         Command::ListWritten(n) => run_call(desk, Request::ListWritten, script::rest(line), n),
         Command::Table2(n) => run_table(true, n),
+        Command::Migrate(n) => run_migrate(desk, n),
         _ => {
             run_apart(command, line);
             desk

@@ -18,7 +18,7 @@ use lib.IntN.{ℤ}
 use Rattle.records.specs.declared.Edition.{Edition}
 use Rattle.records.specs.Format.{edition1, edition2}
 use Rattle.store.specs.declared.Request.the-variants.{Load, Change, Add, Propose, Share, Depot, Difference, Written, AtLeast, ListWritten}
-use Rattle.codes.specs.Codes.{editionIn, Did, Figures, OneFigure, Differs, WroteOut, FreshCode}
+use Rattle.codes.specs.Codes.{editionIn, Did, Figures, OneFigure, Differs, WroteOut, FreshCode, MigrateCode}
 use Rattle.desk.specs.Exports.{coded, written, Exported, editionFor, asked}
 use Rattle.desk.proofs.sulgheti_fresh as of-fresh
 use Rattle.desk.proofs.sulgheti_fresh2 as of-fresh2
@@ -34,6 +34,7 @@ use Rattle.desk.proofs.sulgheti_difference as of-difference
 use Rattle.desk.proofs.sulgheti_written as of-written
 use Rattle.desk.proofs.sulgheti_at_least as of-at-least
 use Rattle.desk.proofs.sulgheti_list as of-list
+use Rattle.desk.proofs.sulgheti_migrate as of-migrate
 
 module _ {M : Type 1} (𝓤 : URA M) (H : Heap 𝓤) (A : Atoms 𝓤) (mem : Memory → SProp 𝓤) (run : Routine → Fun 𝓤) (s s' : RefT (List ℕ)) where
   open Connectives (connectives 𝓤) using (⌜_⌝, ⊤ₛ)
@@ -146,6 +147,15 @@ module _ {M : Type 1} (𝓤 : URA M) (H : Heap 𝓤) (A : Atoms 𝓤) (mem : Mem
 
     list-asks : (κs : Lfts 3) (out : RefT (List ℕ)) → of-list.clauses 𝓤 H A mem run κs (s, (t, (out, tt))) .requires tt ≡ ⊤ₛ
     list-asks κs out = refl
+
+    -- the old store and its table are only read
+    migrate-says : (κs : Lfts 4) (s₂ s₂' t₂ t₂' : RefT (List ℕ))
+        → of-migrate.clauses 𝓤 H A mem run κs (s, (t, (s₂, (t₂, tt)))) .ensures tt r (s', (t', (s₂', (t₂', tt))))
+        ≡ ⌜ MigrateCode (now s) (now t) (now s₂) (now t₂) r (now s₂') (now t₂') ⌝
+    migrate-says κs s₂ s₂' t₂ t₂' = refl
+
+    migrate-asks : (κs : Lfts 4) (s₂ t₂ : RefT (List ℕ)) → of-migrate.clauses 𝓤 H A mem run κs (s, (t, (s₂, (t₂, tt)))) .requires tt ≡ ⊤ₛ
+    migrate-asks κs s₂ t₂ = refl
 
 -- what a history's calls are said by (`Exported`, `editionFor`) are these contracts
 module _ (e : Edition) (s t s' t' : List ℕ) (r : ℤ) where

@@ -1,8 +1,8 @@
--- The contracts of the exported functions of the store say what `Did`, `Figures`, `OneFigure`, `Differs`, `WroteOut` and `FreshCode` say of the edition that a store's length tells, or that the
--- function is for (Contracts); so any calls of them, from what `sulgheti_fresh` or `sulgheti_fresh2` writes where it answers 0 and a table of any bytes, are a history of document 01, and each
+-- The contracts of the exported functions of the store say what `Did`, `Figures`, `OneFigure`, `Differs`, `WroteOut`, `FreshCode` and `MigrateCode` say of the edition that a store's length tells, or that the
+-- function is for (Contracts); so any calls of them, from what `sulgheti_fresh` or `sulgheti_fresh2` writes where it answers 0 and a table of any bytes, are a history of document 01, through the step to edition 2 where they take it, and each
 -- code, figure and buffer that they give is that of the history's reply. What is written out of a list, and loaded, is the same list. The laws are over the edition. Assumes nothing.
 use Prim.Native.Nat.{ℕ, zero, suc}
-use mathlib.Core.Bool.{Bool, true, false, cond}
+use mathlib.Core.Bool.{Bool, true, false, cond, _&&_}
 use mathlib.Core.List.{List, [], _∷_}
 use mathlib.Core.Option.{Option, none, some}
 use mathlib.Core.Path.{_≡_, refl, sym, ap, ap₂, _∙_, subst}
@@ -12,6 +12,7 @@ use borrow.Author.Tests.{eqb-true, ne-eqb}
 use lib.Dec.{eqb}
 use lib.IntN.{ℤ, pos, negℤ}
 use lib.ListN.{length, take}
+use Rattle.density.specs.declared.Site.{Site}
 use Rattle.records.specs.declared.Edition.{Edition}
 use Rattle.records.specs.Bytes.{Bytes}
 use Rattle.records.specs.Outcome.{passed}
@@ -19,20 +20,27 @@ use Rattle.records.specs.Format.{edition1, edition2, readList}
 use Rattle.records.specs.Write.{Marked}
 use Rattle.records.proofs.Samples.{marked1, marked2}
 use Rattle.held_state.specs.declared.Store.{Store}
-use Rattle.held_state.specs.Held.{State, on}
+use Rattle.held_state.specs.Held.{State, on, corrupt}
 use Rattle.store.specs.declared.Request.{Request}
 use Rattle.store.specs.declared.Request.the-variants.{Load, Change, Add, Propose, Share, Depot, Difference, Written, AtLeast, ListWritten}
-use Rattle.store.specs.Calls.{Call, Reply, Told, wrote}
-use Rattle.store.specs.State.{Done, modelOf, effectOf, refusal, settle, step}
-use Rattle.store.specs.Trace.{Run, start, then, Steps, History, AllBytes, Exact, ListRoundTrip, SameFigures}
+use Rattle.store.specs.Calls.{Call, Event, Reply, Told, unbuffered, done, wrote}
+use Rattle.store.specs.State.{Done, modelOf, effectOf, refusal, settle, step, migrateRow, migrateStep}
+use Rattle.store.specs.Trace.{Run, start, then, Steps, Goes, History, AllBytes, Figure, Exact, ListRoundTrip, SameFigures}
 use Rattle.store.proofs.History.{exact, same-figures}
+use Rattle.store.proofs.Migrate.{migrate-zero, each-of-512}
+use Rattle.store.proofs.SameAnswers.{same-through}
 use Rattle.layout.specs.Layout.{storeSize, sitesIn}
-use Rattle.layout.proofs.RoundTrip.{length-sites}
+use Rattle.layout.proofs.Reading.{length-sites}
 use Rattle.lent.specs.Lent.{stateIn, isOf, call, Freshened}
+use Rattle.store_migrate_bytes.specs.Migrate.{into, migrates}
 use Rattle.lent.proofs.Contracts.{laid-reply, fresh-sized, bytes-list}
-use Rattle.codes.specs.Codes.{editionIn, rowCode, noStoreCode, doneCode, lengthCode, firstOf, secondOf, differenceOf, answerOf, Moved, Did, WroteOut, FreshCode}
+use Rattle.lent.proofs.Served.{litres-fit}
+use Rattle.store_converted.specs.Converted.{Converted}
+use Rattle.store_converted.proofs.Converted.{written-over}
+use Rattle.store_migrate_bytes.proofs.Migrated.{store-places}
+use Rattle.codes.specs.Codes.{editionIn, rowCode, noStoreCode, doneCode, lengthCode, firstOf, secondOf, differenceOf, answerOf, Moved, Did, WroteOut, FreshCode, MigrateCode}
 use Rattle.codes.proofs.DeskCodes.{other-code}
-use Rattle.desk.specs.Exports.{Given, coded, figures, differs, written, oneFigure, Exported, Answers, AllAnswer, Offered, editionFor, Calls, none, next, other, other-start, asked, question, SameGiven, ListGiven}
+use Rattle.desk.specs.Exports.{Given, coded, figures, differs, written, oneFigure, Exported, Answers, AllAnswer, Offered, editionFor, Calls, none as no-call, next, over, not-over, other, other-start, other-step, asked, question, SameGiven, ListGiven, MigratedGiven}
 
 -- ---- the edition of a store
 
@@ -115,33 +123,12 @@ other-edition h d = (rw h at (d .code), rw h at (d .moved .store), rw h at (d .m
 pub other-fresh : {e : Edition} {s s' : List ℕ} {r : ℤ} → isOf e s ≡ false → FreshCode e s r s' → (r ≡ noStoreCode) × (s' ≡ s)
 other-fresh h f = (rw h at (f .code), rw h at (f .store))
 
--- ---- calls
+-- so does the step to edition 2, and leaves the new store and table as they were
+pub other-migrate : {s t s₂ t₂ s₂' t₂' : List ℕ} {r : ℤ} → isOf edition1 s && isOf edition2 s₂ ≡ false → MigrateCode s t s₂ t₂ r s₂' t₂'
+    → (r ≡ noStoreCode) × (s₂' ≡ s₂) × (t₂' ≡ t₂)
+other-migrate h m = (rw h at (m .code), rw h at (m .store), rw h at (m .table))
 
-run : {e : Edition} {s t s' t' : List ℕ} {cs : List Call} {gs : List Given} → Offered e → isOf e s ≡ true → Calls e s t cs gs s' t'
-    → (rs : List Reply) × Run Steps (stateIn e s t) cs rs (stateIn e s' t') × AllAnswer gs rs × (isOf e s' ≡ true)
-unfolding AllAnswer
-run o long none = ([], start, tt, long)
-run {e} {s} {t} o long (next {s₁ = s₁} {t₁ = t₁} {c = c} {g = g} y calls) =
-    let x : Exported e s t c g s₁ t₁ = subst (λ (d : Edition). Exported d s t c g s₁ t₁) (serves s (told-edition s o long) (c .request)) y in
-    let m = moved e s t s₁ t₁ c g x in
-    let (rs, steps, all, last) = run o (stays-sized e s t s₁ t₁ c long m) calls in
-    (call e s t c .reply ∷ rs, then (is-step e s t s₁ t₁ c long m) steps, (answers e s t s₁ t₁ c long g x, all), last)
-run {e} {s' = s'} {t'} {cs} o long (other h x calls) =
-    let (code, store, table) = other-edition h x in
-    let (rs, steps, all, last) = run o (subst (λ (z : List ℕ). isOf e z ≡ true) (sym store) long) calls in
-    (rs, subst (λ (z : State). Run Steps z cs rs (stateIn e s' t')) (ap₂ (λ (a b : List ℕ). stateIn e a b) store table) steps, all, last)
-run {e} {t = t} {s'} {t'} {cs} o long (other-start h x calls) =
-    let (code, store) = other-fresh h x in
-    let (rs, steps, all, last) = run o (subst (λ (z : List ℕ). isOf e z ≡ true) (sym store) long) calls in
-    (rs, subst (λ (z : State). Run Steps z cs rs (stateIn e s' t')) (ap (λ (a : List ℕ). stateIn e a t) store) steps, all, last)
-
--- every input is bytes: the contracts say so
-inputs : {e : Edition} {s t s' t' : List ℕ} {cs : List Call} {gs : List Given} → Calls e s t cs gs s' t' → AllBytes cs
-unfolding AllBytes
-inputs none = tt
-inputs {e} {s} {t} (next {s₁ = s₁} {t₁ = t₁} {c = c} {g = g} x calls) = (moved (editionFor e (c .request) s) s t s₁ t₁ c g x .bytes, inputs calls)
-inputs (other h x calls) = inputs calls
-inputs (other-start h x calls) = inputs calls
+-- ---- codes
 
 -- a row's code is neither 0 nor a length
 row-not-length : (m n : ℕ) → pos m ≡ rowCode n → ⊥
@@ -156,26 +143,107 @@ length-there : (m : ℕ) (x : ℤ) (b : Bool) → pos m ≡ cond b x noStoreCode
 length-there m x true h = refl
 length-there m x false h = let z : _≡_ {A = ℕ} 0 1 = cc in absurd (omega arith)
 
+-- ---- the step to edition 2
+
+both : (a b : Bool) → a && b ≡ true → (a ≡ true) × (b ≡ true)
+both true true e = (refl, refl)
+both true false e = (refl, e)
+both false b e = absurd (let z : _≡_ {A = ℕ} 0 1 = cc in omega arith)
+
+-- the code is 0 exactly where the step is done
+module _ (old : State) (new : List Site) where
+  done-by : (o : Option ℕ) → pos 0 ≡ doneCode (migrateStep o old new .reply .answer) → migrateStep o old new .reply ≡ unbuffered done
+  done-by none h = refl
+  done-by (some n) h = absurd (row-not-length 0 n h)
+
+  refused-by : (o : Option ℕ) → (doneCode (migrateStep o old new .reply .answer) ≡ pos 0 → ⊥)
+      → (migrateStep o old new .after ≡ old) × (migrateStep o old new .reply ≡ unbuffered (migrateStep o old new .reply .answer))
+  refused-by none h = absurd (h refl)
+  refused-by (some n) h = (refl, refl)
+
+module _ {s t s₂ t₂ s₂' t₂' : List ℕ} (m : MigrateCode s t s₂ t₂ (pos 0) s₂' t₂') where
+  over-long : (isOf edition1 s ≡ true) × (isOf edition2 s₂ ≡ true)
+  over-long = both (isOf edition1 s) (isOf edition2 s₂) (length-there 0 (doneCode (migrates s t t₂ .reply .answer)) (isOf edition1 s && isOf edition2 s₂) (m .code))
+
+  over-sized : isOf edition2 s₂' ≡ true
+  over-sized = ap (λ (n : ℕ). eqb n (storeSize (edition2 .share))) (m .long) ∙ over-long .1
+
+  over-goes : Goes (stateIn edition1 s t) (into t₂) (unbuffered done) (stateIn edition2 s₂' t₂')
+  over-goes =
+      let old = stateIn edition1 s t in
+      let new = sitesIn (edition2 .litres) t₂ in
+      let code : pos 0 ≡ doneCode (migrates s t t₂ .reply .answer) = rw (over-long .0, over-long .1) at (m .code) in
+      (refl, ap₂ (λ (z : State) (r : Reply). record { after = z; reply = r }) (m .reads refl) (sym (done-by old new (migrateRow old new) code)))
+
+module _ {s t s₂ t₂ s₂' t₂' : List ℕ} {r : ℤ} (m : MigrateCode s t s₂ t₂ r s₂' t₂') (long : isOf edition1 s ≡ true) (there : isOf edition2 s₂ ≡ true) where
+  step-code : r ≡ doneCode (migrates s t t₂ .reply .answer)
+  step-code = rw (long, there) at (m .code)
+
+  not-over-goes : (r ≡ pos 0 → ⊥) → Goes (stateIn edition1 s t) (into t₂) (unbuffered (migrates s t t₂ .reply .answer)) (stateIn edition1 s t)
+  not-over-goes h =
+      let old = stateIn edition1 s t in
+      let new = sitesIn (edition2 .litres) t₂ in
+      let k = refused-by old new (migrateRow old new) (λ z. h (step-code ∙ z)) in
+      (refl, ap₂ (λ (z : State) (r : Reply). record { after = z; reply = r }) (sym (k .0)) (sym (k .1)))
+
+-- ---- calls
+
+run : {e d : Edition} {s t s' t' : List ℕ} {vs : List Event} {gs : List Given} → Offered e → isOf e s ≡ true → Calls e s t vs gs d s' t'
+    → (rs : List Reply) × Run Goes (stateIn e s t) vs rs (stateIn d s' t') × AllAnswer gs rs × (isOf d s' ≡ true) × Offered d
+unfolding AllAnswer
+run o long no-call = ([], start, tt, long, o)
+run {e} {s = s} {t} o long (next {s₁ = s₁} {t₁ = t₁} {c = c} {g = g} y calls) =
+    let x : Exported e s t c g s₁ t₁ = subst (λ (d : Edition). Exported d s t c g s₁ t₁) (serves s (told-edition s o long) (c .request)) y in
+    let m = moved e s t s₁ t₁ c g x in
+    let (rs, steps, all, last, offers) = run o (stays-sized e s t s₁ t₁ c long m) calls in
+    (call e s t c .reply ∷ rs, then (tt, is-step e s t s₁ t₁ c long m) steps, (answers e s t s₁ t₁ c long g x, all), last, offers)
+run o long (over t₂ m calls) =
+    let (rs, steps, all, last, offers) = run (inr refl) (over-sized m) calls in
+    (unbuffered done ∷ rs, then (over-goes m) steps, (refl, all), last, offers)
+run {s = s} {t} o long (not-over t₂ there h m calls) =
+    let (rs, steps, all, last, offers) = run o long calls in
+    (unbuffered (migrates s t t₂ .reply .answer) ∷ rs, then (not-over-goes m long there h) steps, (step-code m long there, all), last, offers)
+run {e} {d} {s' = s'} {t'} {vs} o long (other k h x calls) =
+    let (code, store, table) = other-edition h x in
+    let (rs, steps, all, last, offers) = run o (subst (λ (z : List ℕ). isOf e z ≡ true) (sym store) long) calls in
+    (rs, subst (λ (z : State). Run Goes z vs rs (stateIn d s' t')) (ap₂ (λ (a b : List ℕ). stateIn e a b) store table) steps, all, last, offers)
+run {e} {d} {t = t} {s'} {t'} {vs} o long (other-start k h x calls) =
+    let (code, store) = other-fresh h x in
+    let (rs, steps, all, last, offers) = run o (subst (λ (z : List ℕ). isOf e z ≡ true) (sym store) long) calls in
+    (rs, subst (λ (z : State). Run Goes z vs rs (stateIn d s' t')) (ap (λ (a : List ℕ). stateIn e a t) store) steps, all, last, offers)
+run o long (other-step h x calls) = run o long calls
+
+-- every input is bytes: the contracts say so
+inputs : {e d : Edition} {s t s' t' : List ℕ} {vs : List Event} {gs : List Given} → Calls e s t vs gs d s' t' → AllBytes vs
+unfolding AllBytes
+inputs no-call = tt
+inputs {e} {s = s} {t} (next {s₁ = s₁} {t₁ = t₁} {c = c} {g = g} x calls) = (moved (editionFor e (c .request) s) s t s₁ t₁ c g x .bytes, inputs calls)
+inputs (over t₂ m calls) = (tt, inputs calls)
+inputs (not-over t₂ there h m calls) = (tt, inputs calls)
+inputs (other k h x calls) = inputs calls
+inputs (other-start k h x calls) = inputs calls
+inputs (other-step h x calls) = inputs calls
+
 -- `sulgheti_fresh` answers 0 only where it has written a fresh store
 done-fresh : {e : Edition} {s₀ s : List ℕ} → FreshCode e s₀ (pos 0) s → Freshened e s
 done-fresh {e} {s₀} f =
     let long = length-there 0 (pos 0) (isOf e s₀) (f .code) in
     record { is = rw long at (f .store); reads = f .reads long }
 
-module _ {e : Edition} {s₀ s t s' t' : List ℕ} {cs : List Call} {gs : List Given} (o : Offered e) (f : FreshCode e s₀ (pos 0) s) (calls : Calls e s t cs gs s' t') where
-  pub calls-history : (rs : List Reply) × History e (sitesIn (e .litres) t) cs rs (stateIn e s' t') × AllAnswer gs rs × (isOf e s' ≡ true)
+module _ {e d : Edition} {s₀ s t s' t' : List ℕ} {vs : List Event} {gs : List Given} (o : Offered e) (f : FreshCode e s₀ (pos 0) s) (calls : Calls e s t vs gs d s' t') where
+  pub calls-history : (rs : List Reply) × History e (sitesIn (e .litres) t) vs rs (stateIn d s' t') × AllAnswer gs rs × (isOf d s' ≡ true) × Offered d
   calls-history =
       let g = done-fresh f in
-      let (rs, steps, all, last) = run o (fresh-sized g) calls in
-      (rs, subst (λ (z : State). Run Steps z cs rs (stateIn e s' t')) (ap (λ (x : Store). on e x (sitesIn (e .litres) t)) (g .reads)) steps, all, last)
+      let (rs, steps, all, last, offers) = run o (fresh-sized g) calls in
+      (rs, subst (λ (z : State). Run Goes z vs rs (stateIn d s' t')) (ap (λ (x : Store). on e x (sitesIn (e .litres) t)) (g .reads)) steps, all, last, offers)
 
   -- Demand 3 of these calls: what they give is what the model replies, in numbers.
-  pub calls-exact : (rs : List Reply) × Exact e (sitesIn (e .litres) t) cs rs (stateIn e s' t') × AllAnswer gs rs
-  calls-exact = let (rs, h, all, last) = calls-history in (rs, exact (marked o) h (inputs calls), all)
+  pub calls-exact : (rs : List Reply) × Exact e (sitesIn (e .litres) t) vs rs (stateIn d s' t') × AllAnswer gs rs
+  calls-exact = let (rs, h, all, last, offers) = calls-history in (rs, exact (marked o) h (inputs calls), all)
 
   -- the store's edition is still told by its length
-  still : editionIn s' ≡ e
-  still = let (rs, h, all, last) = calls-history in told-edition s' o last
+  still : editionIn s' ≡ d
+  still = let (rs, h, all, last, offers) = calls-history in told-edition s' offers last
 
 -- ---- two stores that hold the same list
 
@@ -256,17 +324,17 @@ module _ (s₁ t₁ s₂ t₂ : List ℕ) (h : SameFigures (stateIn (editionIn s
 
 -- Two stores that hold the same list after such calls, each of either edition: each W, q, w × q, difference and set of depots that both answer, and that the functions give
 -- for both, is the same.
-pub calls-same : {e d : Edition} {s₀ s t s' t' u₀ u v u' v' : List ℕ} {cs ds : List Call} {gs hs : List Given}
-    → Offered e → FreshCode e s₀ (pos 0) s → Calls e s t cs gs s' t' → Offered d → FreshCode d u₀ (pos 0) u → Calls d u v ds hs u' v'
-    → modelOf (stateIn e s' t') .list ≡ modelOf (stateIn d u' v') .list → SameFigures (stateIn e s' t') (stateIn d u' v') × SameGiven s' t' u' v'
-calls-same {e} {s' = s'} {t'} {u' = u'} {v'} o f x p g y l =
+pub calls-same : {e d k l : Edition} {s₀ s t s' t' u₀ u v u' v' : List ℕ} {vs ws : List Event} {gs hs : List Given}
+    → Offered e → FreshCode e s₀ (pos 0) s → Calls e s t vs gs k s' t' → Offered d → FreshCode d u₀ (pos 0) u → Calls d u v ws hs l u' v'
+    → modelOf (stateIn k s' t') .list ≡ modelOf (stateIn l u' v') .list → SameFigures (stateIn k s' t') (stateIn l u' v') × SameGiven s' t' u' v'
+calls-same {k = k} {l} {s' = s'} {t'} {u' = u'} {v'} o f x p g y same =
     let (rs, a, all) = calls-exact o f x in
     let (ts, b, each) = calls-exact p g y in
-    let h = same-figures a b l in (
+    let h = same-figures a b same in (
       h,
       same-given s' t' u' v'
-          (subst (λ (k : Edition). SameFigures (stateIn k s' t') (stateIn (editionIn u') u' v')) (sym (still o f x))
-          (subst (λ (k : Edition). SameFigures (stateIn e s' t') (stateIn k u' v')) (sym (still p g y)) h)),
+          (subst (λ (e : Edition). SameFigures (stateIn e s' t') (stateIn (editionIn u') u' v')) (sym (still o f x))
+          (subst (λ (e : Edition). SameFigures (stateIn k s' t') (stateIn e u' v')) (sym (still p g y)) h)),
     )
 
 -- ---- the list written out
@@ -325,12 +393,78 @@ module _ (s t : List ℕ) (trip : ListRoundTrip (stateIn (editionIn s) s t)) whe
 pub exports-list : (s t : List ℕ) → Bytes t → ListGiven s t
 exports-list s t b = list-given s t (bytes-list (editionIn s) (marked (offered s)) s t b)
 
+-- ---- what is given after the step to edition 2
+
+module _ {s t s₂ s₂' t₂' : List ℕ} (t₂ : List ℕ) (m : MigrateCode s t s₂ t₂ (pos 0) s₂' t₂') where
+  -- both are told by their lengths
+  old-edition : editionIn s ≡ edition1
+  old-edition = told-edition s (inl refl) (over-long m .0)
+
+  new-edition : editionIn s₂' ≡ edition2
+  new-edition = told-edition s₂' (inr refl) (over-sized m)
+
+  -- row 0 has not refused
+  not-corrupt : corrupt (stateIn edition1 s t) ≡ false
+  not-corrupt = by (corrupt (stateIn edition1 s t)) refl
+    where
+      by : (z : Bool) → corrupt (stateIn edition1 s t) ≡ z → z ≡ false
+      by false e = refl
+      by true e =
+          absurd
+          (let code : pos 0 ≡ doneCode (migrates s t t₂ .reply .answer) = rw (over-long m .0, over-long m .1) at (m .code) in
+          row-not-length 0 0 (code ∙ ap (λ (d : Done). doneCode (d .reply .answer)) (migrate-zero (stateIn edition1 s t) (sitesIn (edition2 .litres) t₂) e)))
+
+  -- a question for a figure is answered as before
+  as-before : (c : Call) → Figure (c .request) → answerOf edition1 s t c ≡ answerOf edition2 s₂' t₂' c
+  as-before c f =
+      ap (λ (r : Reply). r .answer)
+      (laid-reply edition1 s t (step (stateIn edition1 s t) c)
+      ∙ sym (same-through (stateIn edition1 s t) not-corrupt (each-of-512 (stateIn edition1 s t) not-corrupt (store-places (edition1 .share) s .1)) (sitesIn (edition2 .litres) t₂)
+      (unbuffered done) (stateIn edition2 s₂' t₂') (over-goes m) c f)
+      ∙ sym (laid-reply edition2 s₂' t₂' (step (stateIn edition2 s₂' t₂') c)))
+
+  -- a code and a figure are those of the answer
+  same-given-by : {A : Type 0} (c : Call) → Figure (c .request) → (of : Told → A) {x y : A} (z : A) → x ≡ cond (isOf (editionIn s) s) (of (answerOf (editionIn s) s t c)) z
+      → y ≡ cond (isOf (editionIn s₂') s₂') (of (answerOf (editionIn s₂') s₂' t₂' c)) z → x ≡ y
+  same-given-by c f of z h k =
+      (rw (old-edition, over-long m .0) at h) ∙ ap of (as-before c f) ∙ sym (rw (new-edition, over-sized m) at k)
+
+  -- Document 02, e: "each question gets the figure it would have got before", at whatever content row 0 lets through.
+  pub exports-as-before : MigratedGiven s t s₂' t₂'
+  exports-as-before =
+      record {
+        site = λ i r r₂ x y x' y' x₂ y₂ f g. (
+          same-given-by (question (Share i)) tt doneCode noStoreCode (f .code) (g .code),
+          same-given-by (question (Share i)) tt (λ (a : Told). firstOf a x) x (f .first) (g .first),
+          same-given-by (question (Share i)) tt (λ (a : Told). secondOf a y) y (f .second) (g .second),
+        );
+        depot = λ d r r₂ x y x' y' x₂ y₂ f g. (
+          same-given-by (question (Depot d)) tt doneCode noStoreCode (f .code) (g .code),
+          same-given-by (question (Depot d)) tt (λ (a : Told). firstOf a x) x (f .first) (g .first),
+          same-given-by (question (Depot d)) tt (λ (a : Told). secondOf a y) y (f .second) (g .second),
+        );
+        differences = λ a b r r₂ x y x' y' x₂ y₂ f g. (
+          same-given-by (question (Difference a b)) tt doneCode noStoreCode (f .code) (g .code),
+          same-given-by (question (Difference a b)) tt (λ (u : Told). differenceOf u x) x (f .difference) (g .difference),
+          same-given-by (question (Difference a b)) tt (λ (u : Told). secondOf u y) y (f .divisor) (g .divisor),
+        );
+        at-least = λ n r r₂ x x' x₂ f g.
+            (same-given-by (question (AtLeast n)) tt doneCode noStoreCode (f .code) (g .code), same-given-by (question (AtLeast n)) tt (λ (a : Told). firstOf a x) x (f .figure) (g .figure));
+      }
+
+-- Document 02, e: what is written out after it is what the converter makes of what was written out before.
+pub exports-converted : {e : Edition} {s₀ s t s' t' s₂ s₂' t₂' : List ℕ} {vs : List Event} {gs : List Given} → Offered e → FreshCode e s₀ (pos 0) s
+    → Calls e s t vs gs edition1 s' t' → Bytes t' → (t₂ : List ℕ) → MigrateCode s' t' s₂ t₂ (pos 0) s₂' t₂' → Converted (stateIn edition1 s' t') (stateIn edition2 s₂' t₂')
+exports-converted {t' = t'} o f calls b t₂ m =
+    let (rs, h, all, last, offers) = calls-history o f calls in
+    written-over (marked o) h (inputs calls) (λ i l. litres-fit edition1 t' b i) (sitesIn (edition2 .litres) t₂) (over-goes m) refl
+
 -- ---- the exported functions: edition 1 and edition 2
 
-pub exports-exact : {s₀ s t s' t' : List ℕ} {cs : List Call} {gs : List Given} → FreshCode edition1 s₀ (pos 0) s → Calls edition1 s t cs gs s' t'
-    → (rs : List Reply) × Exact edition1 (sitesIn 2 t) cs rs (stateIn edition1 s' t') × AllAnswer gs rs
+pub exports-exact : {d : Edition} {s₀ s t s' t' : List ℕ} {vs : List Event} {gs : List Given} → FreshCode edition1 s₀ (pos 0) s → Calls edition1 s t vs gs d s' t'
+    → (rs : List Reply) × Exact edition1 (sitesIn 2 t) vs rs (stateIn d s' t') × AllAnswer gs rs
 exports-exact f calls = calls-exact (inl refl) f calls
 
-pub exports-exact2 : {s₀ s t s' t' : List ℕ} {cs : List Call} {gs : List Given} → FreshCode edition2 s₀ (pos 0) s → Calls edition2 s t cs gs s' t'
-    → (rs : List Reply) × Exact edition2 (sitesIn 4 t) cs rs (stateIn edition2 s' t') × AllAnswer gs rs
+pub exports-exact2 : {d : Edition} {s₀ s t s' t' : List ℕ} {vs : List Event} {gs : List Given} → FreshCode edition2 s₀ (pos 0) s → Calls edition2 s t vs gs d s' t'
+    → (rs : List Reply) × Exact edition2 (sitesIn 4 t) vs rs (stateIn d s' t') × AllAnswer gs rs
 exports-exact2 f calls = calls-exact (inr refl) f calls

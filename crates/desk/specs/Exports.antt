@@ -1,6 +1,6 @@
 -- Calls of the exported functions of the store, one after another: what each gives its caller, and how that is the reply of a call.
 use Prim.Native.Nat.{ℕ, _≤_}
-use mathlib.Core.Bool.{true, false}
+use mathlib.Core.Bool.{true, false, _&&_}
 use mathlib.Core.List.{List, [], _∷_}
 use mathlib.Core.Path.{_≡_}
 use mathlib.Core.Logic.{_⊎_}
@@ -12,12 +12,13 @@ use Rattle.records.specs.Format.{edition1, edition2, readList}
 use Rattle.records.specs.Write.{onto}
 use Rattle.store.specs.declared.Request.{Request}
 use Rattle.store.specs.declared.Request.the-variants.{Load, Change, Add, Propose, Share, Depot, Difference, Written, AtLeast, ListWritten}
-use Rattle.store.specs.Calls.{Call, Reply}
+use Rattle.store.specs.Calls.{Call, Event, called, Reply}
 use Rattle.store.specs.Model.{count}
 use Rattle.store.specs.State.{modelOf}
 use Rattle.layout.specs.Layout.{placesIn}
 use Rattle.lent.specs.Lent.{stateIn, isOf}
-use Rattle.codes.specs.Codes.{editionIn, doneCode, lengthCode, firstOf, secondOf, differenceOf, Did, Figures, OneFigure, Differs, WroteOut, FreshCode}
+use Rattle.store_migrate_bytes.specs.Migrate.{into}
+use Rattle.codes.specs.Codes.{editionIn, doneCode, lengthCode, firstOf, secondOf, differenceOf, Did, Figures, OneFigure, Differs, WroteOut, FreshCode, MigrateCode}
 
 -- What a function gives: its code; the figures behind its pointers, before the call and after it; the buffer after it.
 pub data Given : Type 0 where
@@ -68,16 +69,24 @@ editionFor e Written s = editionIn s
 editionFor e (AtLeast m) s = editionIn s
 editionFor e ListWritten s = editionIn s
 
--- "Each call gets the desk and the table as the one before left them, and nobody else writes either meanwhile." Changes and added sites of the history are those of edition e
--- (`next`); a change, an added site and a fresh store of another edition than the store's may come between, and are no call of the history (`other`, `other-start`).
-pub data Calls (e : Edition) : List ℕ → List ℕ → List Call → List Given → List ℕ → List ℕ → Type 0 where
-  none : {s t : List ℕ} → Calls e s t [] [] s t
-  next : {s t s₁ t₁ s' t' : List ℕ} {c : Call} {cs : List Call} {g : Given} {gs : List Given}
-      → Exported (editionFor e (c .request) s) s t c g s₁ t₁ → Calls e s₁ t₁ cs gs s' t' → Calls e s t (c ∷ cs) (g ∷ gs) s' t'
-  other : {d : Edition} {s t s₁ t₁ s' t' : List ℕ} {c : Call} {r : ℤ} {cs : List Call} {gs : List Given}
-      → isOf d s ≡ false → Did d s t c r s₁ t₁ → Calls e s₁ t₁ cs gs s' t' → Calls e s t cs gs s' t'
-  other-start : {d : Edition} {s t s₁ s' t' : List ℕ} {r : ℤ} {cs : List Call} {gs : List Given}
-      → isOf d s ≡ false → FreshCode d s r s₁ → Calls e s₁ t cs gs s' t' → Calls e s t cs gs s' t'
+-- "Each call gets the desk and the table as the one before left them, and nobody else writes either meanwhile." Changes and added sites of the history are those of the store's edition
+-- (`next`). Document 02, e: the step to edition 2 takes other bytes of any content for the new store and table, and the next call gets these where the code is 0 (`over`), and the old ones
+-- where it is a row's (`not-over`). A change, an added site and a fresh store of another edition than the store's, and a step that is given no store of edition 1 or none of edition 2 for
+-- the new one, may come between, and are no event of the history (`other`, `other-start`, `other-step`).
+pub data Calls : Edition → List ℕ → List ℕ → List Event → List Given → Edition → List ℕ → List ℕ → Type 0 where
+  none : {e : Edition} {s t : List ℕ} → Calls e s t [] [] e s t
+  next : {e d : Edition} {s t s₁ t₁ s' t' : List ℕ} {c : Call} {vs : List Event} {g : Given} {gs : List Given}
+      → Exported (editionFor e (c .request) s) s t c g s₁ t₁ → Calls e s₁ t₁ vs gs d s' t' → Calls e s t (called c ∷ vs) (g ∷ gs) d s' t'
+  over : {d : Edition} {s t s₂ s₂' t₂' s' t' : List ℕ} {vs : List Event} {gs : List Given} (t₂ : List ℕ)
+      → MigrateCode s t s₂ t₂ (pos 0) s₂' t₂' → Calls edition2 s₂' t₂' vs gs d s' t' → Calls edition1 s t (into t₂ ∷ vs) (coded (pos 0) ∷ gs) d s' t'
+  not-over : {d : Edition} {s t s₂ s₂' t₂' s' t' : List ℕ} {r : ℤ} {vs : List Event} {gs : List Given} (t₂ : List ℕ) → isOf edition2 s₂ ≡ true → (r ≡ pos 0 → ⊥)
+      → MigrateCode s t s₂ t₂ r s₂' t₂' → Calls edition1 s t vs gs d s' t' → Calls edition1 s t (into t₂ ∷ vs) (coded r ∷ gs) d s' t'
+  other : {e d : Edition} {s t s₁ t₁ s' t' : List ℕ} {c : Call} {r : ℤ} {vs : List Event} {gs : List Given} (o : Edition)
+      → isOf o s ≡ false → Did o s t c r s₁ t₁ → Calls e s₁ t₁ vs gs d s' t' → Calls e s t vs gs d s' t'
+  other-start : {e d : Edition} {s t s₁ s' t' : List ℕ} {r : ℤ} {vs : List Event} {gs : List Given} (o : Edition)
+      → isOf o s ≡ false → FreshCode o s r s₁ → Calls e s₁ t vs gs d s' t' → Calls e s t vs gs d s' t'
+  other-step : {e d : Edition} {s t s₂ t₂ s₂' t₂' s' t' : List ℕ} {r : ℤ} {vs : List Event} {gs : List Given}
+      → isOf edition1 s && isOf edition2 s₂ ≡ false → MigrateCode s t s₂ t₂ r s₂' t₂' → Calls e s t vs gs d s' t' → Calls e s t vs gs d s' t'
 
 -- a call for a request with its input and buffer; a question for figures, which is given neither
 abbrev pub asked : Request → List ℕ → List ℕ → Call
@@ -113,3 +122,15 @@ pub record ListGiven (s t : List ℕ) : Type 0 where
   -- "writing what was read yields the same bytes"
   pub again : (list s' t' buffer out : List ℕ) (n : ℕ) → Did (editionIn s) s t (asked Load list []) (pos 0) s' t'
       → WroteOut (editionIn s') s' t' (asked ListWritten [] buffer) (pos n) out → (n ≡ length list) × (out ≡ onto list buffer)
+
+-- Document 02, e, of what the functions give: by the old store of edition 1 and its table, and by the new ones that the step has written. "each question gets the figure it would have got
+-- before", and the same code.
+pub record MigratedGiven (s t s₂ t₂ : List ℕ) : Type 0 where
+  pub site : (i : ℕ) (r r₂ : ℤ) (x y x' y' x₂ y₂ : ℕ) → Figures (editionIn s) s t (question (Share i)) r x y x' y' → Figures (editionIn s₂) s₂ t₂ (question (Share i)) r₂ x y x₂ y₂
+      → (r ≡ r₂) × (x' ≡ x₂) × (y' ≡ y₂)
+  pub depot : (d : ℕ) (r r₂ : ℤ) (x y x' y' x₂ y₂ : ℕ) → Figures (editionIn s) s t (question (Depot d)) r x y x' y' → Figures (editionIn s₂) s₂ t₂ (question (Depot d)) r₂ x y x₂ y₂
+      → (r ≡ r₂) × (x' ≡ x₂) × (y' ≡ y₂)
+  pub differences : (a b : ℕ) (r r₂ : ℤ) (x : ℤ) (y : ℕ) (x' : ℤ) (y' : ℕ) (x₂ : ℤ) (y₂ : ℕ) → Differs (editionIn s) s t (question (Difference a b)) r x y x' y'
+      → Differs (editionIn s₂) s₂ t₂ (question (Difference a b)) r₂ x y x₂ y₂ → (r ≡ r₂) × (x' ≡ x₂) × (y' ≡ y₂)
+  pub at-least : (m : ℕ) (r r₂ : ℤ) (x x' x₂ : ℕ) → OneFigure (editionIn s) s t (question (AtLeast m)) r x x' → OneFigure (editionIn s₂) s₂ t₂ (question (AtLeast m)) r₂ x x₂
+      → (r ≡ r₂) × (x' ≡ x₂)

@@ -1,5 +1,5 @@
-// The static library of the store, for Rust and C: one function for each call, and two for a fresh store, a change and an added site, over lent bytes. A store of edition 1 is 2,584 bytes and a place of its table 4, of edition 2 4,632 and 6 (crate `layout`).
-// Where the bytes of a store have another length, every function answers -257 and nothing is written; so do those for one edition where the store is of the other.
+// The static library of the store, for Rust and C: one function for each call, two for a fresh store, a change and an added site, and one for the step to edition 2, over lent bytes. A store of edition 1 is 2,584 bytes and a place of its table 4, of edition 2 4,632 and 6 (crate `layout`).
+// Where the bytes of a store have another length, every function answers -257 and nothing is written; so do those for one edition where the store is of the other, and the step where the old store is none of edition 1 or the new one none of edition 2.
 use codes::edition_in;
 use codes::figures;
 use codes::wrote_out;
@@ -10,7 +10,7 @@ use store::Request;
 ghost use mathlib.Core.List.{[]};
 ghost use Rattle.records.specs.Format.{edition1, edition2};
 ghost use Rattle.store.specs.declared.Request.the-variants as request;
-ghost use Rattle.codes.specs.Codes.{editionIn, Did, Figures, OneFigure, Differs, WroteOut, FreshCode};
+ghost use Rattle.codes.specs.Codes.{editionIn, Did, Figures, OneFigure, Differs, WroteOut, FreshCode, MigrateCode};
 
 // A fresh store of edition 1: 0.
 #[no_mangle]
@@ -187,4 +187,17 @@ pub extern "C" fn sulgheti_list(store: &[u8], table: &[u8], buffer: &mut [u8]) -
 {
     let e = edition_in(store);
     wrote_out(e, store, table, Request::ListWritten, buffer)
+}
+
+// The step of a store of edition 1 and its table, which are only read, to a store of edition 2 over a new table: 0, or the row.
+#[no_mangle]
+pub extern "C" fn sulgheti_migrate(
+    store: &[u8],
+    table: &[u8],
+    store2: &mut [u8],
+    table2: &mut [u8],
+) -> i64
+    ensures { λ r. ⌜ MigrateCode (now (store .entry)) (now (table .entry)) (now (store2 .entry)) (now (table2 .entry)) r (now (store2 .exit)) (now (table2 .exit)) ⌝ }
+{
+    codes::migrate(store, table, store2, table2)
 }

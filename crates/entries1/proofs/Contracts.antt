@@ -30,7 +30,7 @@ use Rattle.store.specs.Trace.{History, Exact, ListRoundTrip, SameFigures}
 use Rattle.serve.specs.Entries.{Lawful}
 use Rattle.serve.proofs.Entries.{calls-history, calls-exact, calls-list, calls-same-figures, calls-one, calls-on-exact, calls-on-list, calls-on-same-figures}
 use Rattle.edition1.specs.Edition1.{view1, fresh1, entry1}
-use Rattle.entries1.specs.Entries1.{Passed1, passed1, Result1, replied1, Called1, Calls1, first1, CalledOn1, CallsOn1}
+use Rattle.entries1.specs.Entries1.{Passed1, event1, Result1, replied1, Called1, Calls1, first1, CalledOn1, CallsOn1}
 use Rattle.edition1.proofs.fresh1 as of-fresh1
 use Rattle.entries1.proofs.call1 as of-call1
 use Rattle.entries1.proofs.call_on1 as of-call-on1
@@ -78,12 +78,12 @@ lawful1 = record { marked = marked1; is-fresh = refl; same-store = λ s s' e. ap
 
 -- Any calls of `call1`, from what `fresh1` gives and a table of any length and content, are a history of edition 1.
 pub calls1-history : {s : Store1} {table table' : List Site1} {ps : List Passed1} {rs : List Result1} → Calls1 fresh1 table ps rs s table'
-    → History edition1 (map widened table) (map passed1 ps) (map replied1 rs) (view1 s table')
+    → History edition1 (map widened table) (map event1 ps) (map replied1 rs) (view1 s table')
 calls1-history = calls-history lawful1
 
 -- Demand 3 of these calls.
 pub calls1-exact : {s : Store1} {table table' : List Site1} {ps : List Passed1} {rs : List Result1} → Calls1 fresh1 table ps rs s table'
-    → Exact edition1 (map widened table) (map passed1 ps) (map replied1 rs) (view1 s table')
+    → Exact edition1 (map widened table) (map event1 ps) (map replied1 rs) (view1 s table')
 calls1-exact = calls-exact lawful1
 
 -- Document 02, b: the list written out after them.
@@ -104,7 +104,7 @@ calls1-one = calls-one lawful1
 
 -- Demand 3 of these calls.
 pub calls-on1-exact : {k : ℕ} {s : Store1} {table table' : List Site1} {ps : List Passed1} {rs : List Result1} → CallsOn1 k fresh1 table ps rs s table'
-    → Exact edition1 (map widened (take k table)) (map passed1 ps) (map replied1 (map (first1 k) rs)) (view1 s (take k table')) × (drop k table' ≡ drop k table)
+    → Exact edition1 (map widened (take k table)) (map event1 ps) (map replied1 (map (first1 k) rs)) (view1 s (take k table')) × (drop k table' ≡ drop k table)
 calls-on1-exact = calls-on-exact lawful1
 
 pub calls-on1-list : {k : ℕ} {s : Store1} {table table' : List Site1} {ps : List Passed1} {rs : List Result1} → CallsOn1 k fresh1 table ps rs s table'

@@ -6,8 +6,8 @@ use Rattle.edition1.specs.declared.Store1.{Store1}
 use Rattle.edition1.specs.declared.Decision1.{Decision1}
 use Rattle.edition1.specs.declared.Out1.{Out1}
 use Rattle.edition1.specs.Edition1.{entry1}
-use Rattle.store.specs.Calls.{Call, Reply}
-use Rattle.serve.specs.Entries.{Passed, call, Result, replied, Called, Calls, first, CalledOn, CallsOn}
+use Rattle.store.specs.Calls.{Event, Reply}
+use Rattle.serve.specs.Entries.{Passed, event, Result, replied, Called, Calls, first, CalledOn, CallsOn}
 
 -- what the entry gives back of a decision
 abbrev pub outOf : Decision1 → Out1
@@ -17,8 +17,8 @@ outOf d = record { answer = d .answer; store = d .store }
 abbrev pub Passed1 : Type 0
 Passed1 = Passed entry1
 
-abbrev pub passed1 : Passed1 → Call
-passed1 = call entry1
+abbrev pub event1 : Passed1 → Event
+event1 = event entry1
 
 abbrev pub Result1 : Type 0
 Result1 = Result entry1

@@ -6,11 +6,9 @@ use Prim.Native.Nat.{ℕ, _+_, _*_, _/_, _%_, _<_, _≤_, _^_}
 use lib.Dec.{eqb, leb}
 use lib.ListN.{length, take, drop, getD, replicate}
 use Rattle.density.specs.declared.Site.{Site}
-use Rattle.density.specs.Network.{noSite}
 use Rattle.records.specs.Bytes.{le, value, field}
 use Rattle.records.specs.Record.{records}
 use Rattle.records.specs.Write.{onto}
-use Rattle.table.specs.Table.{overlay}
 use Rattle.held_state.specs.declared.Store.{Store}
 use Rattle.layout.specs.declared.Header.{Header}
 
@@ -88,21 +86,12 @@ sitesIn w t = map (placeIn w) (records (placeSize w) (placesIn w t) t)
 abbrev pub tableOver : ℕ → List Site → List ℕ → List ℕ
 tableOver w sites t = onto (flatMap (placeBytes w) sites) t
 
--- What is read of a store: its first words, and as many groups and shares as they say.
-pub record StoreRead (w : ℕ) (s : List ℕ) (r : Header) (gs ss : List ℕ) : Type 0 where
+-- What is read of a store: its first words, and as many groups and shares as they say; the places behind these are as they were.
+pub record StoreRead (w : ℕ) (s gs₀ ss₀ : List ℕ) (r : Header) (gs ss : List ℕ) : Type 0 where
   pub count : r .count ≡ storeIn w s .count
   pub held : r .held ≡ storeIn w s .held
   pub grouped : r .grouped ≡ storeIn w s .grouped
   pub groups : r .grouped ≤ 64 → take (r .grouped) gs ≡ take (r .grouped) (storeIn w s .groups)
   pub shares : r .count ≤ 512 → take (r .count) ss ≡ take (r .count) (storeIn w s .shares)
-
--- What the writers leave, and that it reads back where the figures have the width.
-pub record PutStore (w : ℕ) (s : Store) (last : List ℕ) : Type 0 where
-  pub bytes : last ≡ storeBytes w s
-  pub reads : ((i : ℕ) → getD (s .shares) i 0 < 256 ^ w) → storeIn w last ≡ s
-
-pub record PutSites (w n : ℕ) (sites : List Site) (t last : List ℕ) : Type 0 where
-  pub bytes : last ≡ tableOver w (take n sites) t
-  pub reads : ((i : ℕ) → i < n → getD sites i noSite .litres < 256 ^ w) → sitesIn w last ≡ overlay n sites (sitesIn w t)
-  -- by its type
-  pub many : length sites ≡ 512
+  pub groups-behind : r .grouped ≤ 64 → drop (r .grouped) gs ≡ drop (r .grouped) gs₀
+  pub shares-behind : r .count ≤ 512 → drop (r .count) ss ≡ drop (r .count) ss₀

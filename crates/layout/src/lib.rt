@@ -1,25 +1,18 @@
-// The store and the table laid in bytes, by the width of a share and of a site's litres: what bytes stand for, and what is written over them.
-// Numbers and places are read and written one after another by loops over a width; the widths of both editions are given as constants to those that read and to that of the places, edition 1's to that of the shares that are written.
+// The store and the table laid in bytes, by the width of a share and of a site's litres: what bytes stand for.
+// Numbers and places are read one after another by loops over a width; the widths of both editions are given to them as constants.
 use density::Site;
 use held_state::is_bad;
 use records::ListArray;
 use records::number::field;
 use records::scan::either;
 use table::capacity;
-use writers::body_of;
-use writers::number_at;
 ghost use mathlib.Core.Path.{_≡_};
-ghost use mathlib.Core.Bool.{true};
-ghost use mathlib.Core.List.{flatMap};
 ghost use Prim.Native.Nat.{_<_, _≤_, _+_, _*_, _-_, _^_, min};
-ghost use lib.ListN.{length, take, drop, getD, replicate};
+ghost use lib.ListN.{length, take, drop, getD};
 ghost use Rattle.sets.specs.Sum.{any};
 ghost use Rattle.density.specs.Network.{noSite};
-ghost use Rattle.records.specs.Bytes.{le};
-ghost use Rattle.records.specs.Write.{place, onto};
 ghost use Rattle.held_state.specs.Held.{badSite};
-ghost use Rattle.store.specs.State.{bare};
-ghost use Rattle.layout.specs.Layout.{storeSize, placeSize, placesIn, numbers, placeBytes, placeIn, sitesIn, tableOver, siteOfNumber, StoreRead, PutStore, PutSites};
+ghost use Rattle.layout.specs.Layout.{storeSize, placeSize, placesIn, numbers, placeIn, sitesIn, siteOfNumber, StoreRead};
 
 // The first words of a store: how many sites it has, whether a plan is held, and of how many groups.
 pub struct Header {
@@ -66,7 +59,7 @@ fn numbers_in(out: &mut [u64], s: &[u8], from: usize, w: usize)
 // Reads a store: its first words, and as many groups and shares as they say.
 pub fn store_in(s: &[u8], w: usize, groups: &mut [u64], shares: &mut [u64]) -> Header
     requires { ⌜ (w ≤ 8) × (length (now s) ≡ storeSize w) × (length (now groups) ≡ 64) × (length (now shares) ≡ 512) ⌝ }
-    ensures { λ r. ⌜ StoreRead w (now (s .entry)) r (now (groups .exit)) (now (shares .exit)) ⌝ }
+    ensures { λ r. ⌜ StoreRead w (now (s .entry)) (now (groups .entry)) (now (shares .entry)) r (now (groups .exit)) (now (shares .exit)) ⌝ }
 {
     let held = field(s, 8, 8);
     if 1 < held {
@@ -182,98 +175,4 @@ pub fn is_any_bad(t: &[u8], w: usize, n: usize) -> bool
         return bad_by(t, 6, n);
     }
     bad_by(t, 2 + w, n)
-}
-
-// Writes numbers of `w` bytes, one behind the other, to the front of `out`.
-fn put_numbers(out: &mut [u8], w: usize, xs: &[u64])
-    requires { ⌜ w * length (now xs) ≤ length (now out) ⌝ }
-    ensures { λ _. ⌜ now (out .exit) ≡ onto (flatMap (le w) (now (xs .entry))) (now (out .entry)) ⌝ }
-{
-    let mut i = 0;
-    let mut at = 0;
-    while i < xs.len() {
-        number_at(out, at, w, xs[i]);
-        at += w;
-        i += 1;
-    }
-}
-
-// All bytes become zero.
-fn clear(out: &mut [u8])
-    ensures { λ _. ⌜ now (out .exit) ≡ replicate (length (now (out .entry))) 0 ⌝ }
-{
-    let mut i = 0;
-    while i < out.len() {
-        out[i] = 0;
-        i += 1;
-    }
-}
-
-// Writes a store of n sites that holds no plan.
-pub fn put_bare(out: &mut [u8], w: usize, n: usize)
-    requires { ⌜ length (now out) ≡ storeSize w ⌝ }
-    ensures { λ _. ⌜ PutStore w (bare n) (now (out .exit)) ⌝ }
-{
-    number_at(out, 0, 8, n as u64);
-    clear(&mut out[8..]);
-}
-
-// Writes a store that holds a plan.
-pub fn put_plan(
-    out: &mut [u8],
-    w: usize,
-    count: usize,
-    grouped: usize,
-    groups: &[u64],
-    shares: &[u64],
-)
-    requires { ⌜ (length (now out) ≡ storeSize w) × (length (now groups) ≡ 64) × (length (now shares) ≡ 512) ⌝ }
-    ensures { λ _. ⌜ PutStore w (record { count = count; held = true; grouped = grouped; groups = now (groups .entry); shares = now (shares .entry) }) (now (out .exit)) ⌝ }
-{
-    number_at(out, 0, 8, count as u64);
-    number_at(out, 8, 8, 1);
-    number_at(out, 16, 8, grouped as u64);
-    put_numbers(&mut out[24..], 8, groups);
-    if w == 4 {
-        return put_numbers(&mut out[536..], 4, shares);
-    }
-    put_numbers(&mut out[536..], w, shares);
-}
-
-// A site goes to a place of a table's bytes.
-pub fn put_site(out: &mut [u8], at: usize, w: usize, x: Site)
-    requires { ⌜ at + placeSize w ≤ length (now out) ⌝ }
-    ensures { λ _. ⌜ now (out .exit) ≡ place at (placeBytes w x) (now (out .entry)) ⌝ }
-{
-    number_at(out, at, 2 + w, body_of(x));
-}
-
-// The first n sites go to the first places.
-fn put_by(out: &mut [u8], w: usize, sites: [Site; 512], n: usize)
-    requires { ⌜ (n ≤ 512) × (placeSize w * n ≤ length (now out)) ⌝ }
-    ensures { λ _. ⌜ now (out .exit) ≡ tableOver w (take n sites) (now (out .entry)) ⌝ }
-{
-    let mut i: usize = 0;
-    let mut at: usize = 0;
-    while i < n {
-        let x = sites[i];
-        let body = body_of(x);
-        number_at(out, at, 2 + w, body);
-        at += 2 + w;
-        i += 1;
-    }
-}
-
-// Copy out: the first n sites go to the table's bytes. The other places keep their content.
-pub fn put_sites(out: &mut [u8], w: usize, sites: [Site; 512], n: usize)
-    requires { ⌜ (n ≤ 512) × (placeSize w * n ≤ length (now out)) ⌝ }
-    ensures { λ _. ⌜ PutSites w n sites (now (out .entry)) (now (out .exit)) ⌝ }
-{
-    if w == 2 {
-        return put_by(out, 2, sites, n);
-    }
-    if w == 4 {
-        return put_by(out, 4, sites, n);
-    }
-    put_by(out, w, sites, n);
 }

@@ -28,7 +28,7 @@ use Rattle.store.specs.State.{bare, next, step, RefusedBy}
 use Rattle.store.proofs.Settled.{load-refused, load-read}
 use Rattle.store_calls.proofs.Steps.{proposal-refused, proposal-passed, held-count}
 use Rattle.layout.specs.Layout.{placesIn, sitesIn}
-use Rattle.layout.proofs.RoundTrip.{length-sites}
+use Rattle.layout.proofs.Reading.{length-sites}
 use Rattle.lent.specs.Lent.{stateIn}
 
 -- ---- what a reader answers

@@ -37,9 +37,11 @@ use Rattle.store.proofs.Rules.{reading-leaves}
 use Rattle.store.proofs.Widths.{below, repeated-at, read-at, step-fits}
 use Rattle.store_calls.proofs.Steps.{held-site}
 use Rattle.layout.specs.declared.Header.{Header}
-use Rattle.layout.specs.Layout.{storeSize, placeSize, placesIn, storeBytes, storeAt, noStore, storeIn, placeBytes, placeIn, sitesIn, tableOver, StoreRead, PutStore, PutSites}
-use Rattle.layout.proofs.RoundTrip.{length-sites, table-again, site-here}
-use Rattle.layout.proofs.Places.{site-back, site-over, table-same}
+use Rattle.layout.specs.Layout.{storeSize, placeSize, placesIn, storeBytes, storeAt, noStore, storeIn, placeBytes, placeIn, sitesIn, tableOver, StoreRead}
+use Rattle.layout.proofs.Reading.{length-sites, site-here}
+use Rattle.layout_put.specs.Put.{PutStore, PutSites}
+use Rattle.layout_put.proofs.RoundTrip.{table-again}
+use Rattle.layout_put.proofs.Places.{site-back, site-over, table-same}
 use Rattle.lent.specs.Lent.{stateIn, isOf, Lent, isKept, lent, laid, Called, Freshened}
 
 -- ---- lengths and places
@@ -64,7 +66,7 @@ numbers-fit w (suc n) s b zero = field-small s 0 w b
 numbers-fit w (suc n) s b (suc i) = numbers-fit w n (drop w s) (bytes-drop w s b) i
 
 module _ (e : Edition) where
-  shares-fit : (s : List ℕ) → Bytes s → (i : ℕ) → getD (storeIn (e .share) s .shares) i 0 < 256 ^ e .share
+  pub shares-fit : (s : List ℕ) → Bytes s → (i : ℕ) → getD (storeIn (e .share) s .shares) i 0 < 256 ^ e .share
   unfolding storeIn
   shares-fit s b i = by (leb (field s 8 8) 1)
     where
@@ -108,9 +110,10 @@ marks e t {n} k p bad list c l =
     bad a room ∙ sym (take-any n (list .sites) (sitesIn (e .litres) t) (l a room)))
 
 -- the values that are read are those of the state
-pub stands : (e : Edition) (s t : List ℕ) {h : Header} {gs ss : List ℕ} {list : ListArray} {k : Summary} → StoreRead (e .share) s h gs ss → Listed e t (h .count) list
+pub stands : (e : Edition) (s t : List ℕ) {h : Header} {gs₀ ss₀ gs ss : List ℕ} {list : ListArray} {k : Summary} → StoreRead (e .share) s gs₀ ss₀ h gs ss
+    → Listed e t (h .count) list
     → k .places ≡ placesIn (e .litres) t → k .held ≡ h .held → k .grouped ≡ h .grouped → Stands (stateIn e s t) list k gs ss
-stands e s t {h} {gs} {ss} {list} {k} r l p d g =
+stands e s t {h} {gs = gs} {ss} {list} {k} r l p d g =
     record {
       count = l .0 ∙ r .count;
       places = p ∙ sym (length-sites (e .litres) t);

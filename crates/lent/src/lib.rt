@@ -5,12 +5,12 @@ use held_state::is_corrupt;
 use layout::Header;
 use layout::is_any_bad;
 use layout::list_in;
-use layout::put_bare;
-use layout::put_plan;
-use layout::put_site;
-use layout::put_sites;
 use layout::site_in;
 use layout::store_in;
+use layout_put::put_bare;
+use layout_put::put_plan;
+use layout_put::put_site;
+use layout_put::put_sites;
 use records::Edition;
 use records::Read;
 use store::Answer;
@@ -44,7 +44,7 @@ pub fn fresh(e: Edition, store: &mut [u8])
 }
 
 // What a call goes by beside the sites and the plan.
-fn summary(e: Edition, h: Header, table: &[u8]) -> Summary
+pub fn summary(e: Edition, h: Header, table: &[u8]) -> Summary
     requires { ⌜ e .litres ≤ 4 ⌝ }
     ensures { λ r. ⌜ (r .places ≡ placesIn (e .litres) (now (table .entry))) × (r .held ≡ h .held) × (r .grouped ≡ h .grouped) × ((list : ListArray) → list .count ≡ h .count → (h .count ≤ 512 → h .count ≤ placesIn (e .litres) (now (table .entry)) → take (h .count) (list .sites) ≡ take (h .count) (sitesIn (e .litres) (now (table .entry)))) → BadKnown list r) ⌝ }
 {

@@ -1,53 +1,56 @@
 -- Calls of a typed entry, one after another, from a fresh store and a table of any length and content: they are a history, so what is proved of histories holds of them.
 -- Nothing is asked of their inputs or of the litres that they name: the contract says what these are. Assumes nothing.
-use mathlib.Core.Path.{_≡_, refl, ap, _∙_, subst}
+use mathlib.Core.Path.{_≡_, refl, sym, ap, _∙_, subst}
 use mathlib.Core.List.{List, map}
-use Prim.Native.Nat.{ℕ, _^_}
+use Prim.Native.Nat.{ℕ}
 use lib.ListN.{take, drop}
+use Rattle.records.specs.declared.Edition.{Edition}
 use Rattle.held_state.specs.declared.Store.{Store}
 use Rattle.held_state.specs.Held.{State, on}
 use Rattle.store.specs.State.{modelOf}
-use Rattle.store.specs.Trace.{Run, start, then, Steps, History, AllBytes, Exact, ListRoundTrip, SameFigures}
-use Rattle.store.specs.Widths.{AllNamed}
+use Rattle.store.specs.Trace.{Run, start, then, Goes, History, AllBytes, Traced, tracedOn, begun, Exact, ListRoundTrip, SameFigures}
+use Rattle.store.specs.Widths.{NamedIn, AllNamed}
 use Rattle.store.proofs.History.{exact, one-history, same-figures}
 use Rattle.store.proofs.ListRoundTrip.{history-list}
-use Rattle.serve.specs.Entries.{Entry, Lawful, view, Passed, call, Result, replied, Calls, none, next, first, CallsOn, none-on, next-on}
+use Rattle.serve.specs.Entries.{Entry, Lawful, view, Passed, event, Result, replied, Calls, none, next, first, CallsOn, none-on, next-on}
 
 -- ---- calls over a lent table
 
 module _ {E : Entry} where
   calls-run : {s s' : E .StoreType} {t t' : List (E .SiteType)} {ps : List (Passed E)} {rs : List (Result E)} → Calls E s t ps rs s' t'
-      → Run Steps (view E s t) (map (call E) ps) (map (replied E) rs) (view E s' t')
+      → Run Goes (view E s t) (map (event E) ps) (map (replied E) rs) (view E s' t')
   calls-run none = start
-  calls-run (next (typed, x) xs) = then x (calls-run xs)
+  calls-run (next (typed, x) xs) = then (tt, x) (calls-run xs)
 
   -- every input is bytes, and every litres have the edition's width
-  calls-bytes : {s s' : E .StoreType} {t t' : List (E .SiteType)} {ps : List (Passed E)} {rs : List (Result E)} → Calls E s t ps rs s' t' → AllBytes (map (call E) ps)
+  calls-bytes : {s s' : E .StoreType} {t t' : List (E .SiteType)} {ps : List (Passed E)} {rs : List (Result E)} → Calls E s t ps rs s' t' → AllBytes (map (event E) ps)
   unfolding AllBytes
   calls-bytes none = tt
   calls-bytes (next (typed, x) xs) = (typed .0, calls-bytes xs)
 
   calls-named : {s s' : E .StoreType} {t t' : List (E .SiteType)} {ps : List (Passed E)} {rs : List (Result E)} → Calls E s t ps rs s' t'
-      → AllNamed (256 ^ E .edition .litres) (map (call E) ps)
-  calls-named none = tt
-  calls-named (next (typed, x) xs) = (typed .1, calls-named xs)
+      → (u : Traced) → u .edition ≡ E .edition → AllNamed u (map (event E) ps) (map (replied E) rs)
+  unfolding AllNamed
+  calls-named none u e = tt
+  calls-named (next {p = p} {r = r} (typed, x) xs) u e =
+      (subst (λ (e : Edition). NamedIn e (event E p)) (sym e) (typed .1), calls-named xs (tracedOn (event E p) (replied E r .answer) u) e)
 
 module _ {E : Entry} (L : Lawful E) where
   -- They are a history of the edition.
   pub calls-history : {s : E .StoreType} {table table' : List (E .SiteType)} {ps : List (Passed E)} {rs : List (Result E)} → Calls E (E .fresh) table ps rs s table'
-      → History (E .edition) (E .sites table) (map (call E) ps) (map (replied E) rs) (view E s table')
+      → History (E .edition) (E .sites table) (map (event E) ps) (map (replied E) rs) (view E s table')
   calls-history {s} {table} {table'} {ps} {rs} calls =
-      subst (λ (k : Store). Run Steps (on (E .edition) k (E .sites table)) (map (call E) ps) (map (replied E) rs) (view E s table')) (L .is-fresh) (calls-run calls)
+      subst (λ (k : Store). Run Goes (on (E .edition) k (E .sites table)) (map (event E) ps) (map (replied E) rs) (view E s table')) (L .is-fresh) (calls-run calls)
 
   -- Demand 3 of these calls.
   pub calls-exact : {s : E .StoreType} {table table' : List (E .SiteType)} {ps : List (Passed E)} {rs : List (Result E)} → Calls E (E .fresh) table ps rs s table'
-      → Exact (E .edition) (E .sites table) (map (call E) ps) (map (replied E) rs) (view E s table')
+      → Exact (E .edition) (E .sites table) (map (event E) ps) (map (replied E) rs) (view E s table')
   calls-exact calls = exact (L .marked) (calls-history calls) (calls-bytes calls)
 
   -- Document 02, b: the list written out after them.
   pub calls-list : {s : E .StoreType} {table table' : List (E .SiteType)} {ps : List (Passed E)} {rs : List (Result E)} → Calls E (E .fresh) table ps rs s table'
       → ListRoundTrip (view E s table')
-  calls-list calls = history-list (L .marked) (calls-history calls) (calls-bytes calls) (calls-named calls)
+  calls-list {table = table} calls = history-list (L .marked) (calls-history calls) (calls-bytes calls) (calls-named calls (begun (E .edition) (E .sites table)) refl)
 
   -- The calls settle the replies, the store and the whole table.
   pub calls-one : {s s' : E .StoreType} {table t t' : List (E .SiteType)} {ps : List (Passed E)} {rs rs' : List (Result E)}
@@ -77,7 +80,7 @@ module _ {E : Entry} where
   -- Demand 3 of these calls.
   pub calls-on-exact : Lawful E → {k : ℕ} {s : E .StoreType} {table table' : List (E .SiteType)} {ps : List (Passed E)} {rs : List (Result E)}
       → CallsOn E k (E .fresh) table ps rs s table'
-      → Exact (E .edition) (E .sites (take k table)) (map (call E) ps) (map (replied E) (map (first E k) rs)) (view E s (take k table'))
+      → Exact (E .edition) (E .sites (take k table)) (map (event E) ps) (map (replied E) (map (first E k) rs)) (view E s (take k table'))
       × (drop k table' ≡ drop k table)
   calls-on-exact L calls =
       let (x, e) = calls-on calls in

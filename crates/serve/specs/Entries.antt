@@ -11,7 +11,7 @@ use Rattle.held_state.specs.declared.Store.{Store}
 use Rattle.held_state.specs.Held.{State, on}
 use Rattle.store.specs.declared.Request.{Request}
 use Rattle.store.specs.declared.Answer.{Answer}
-use Rattle.store.specs.Calls.{Call, Reply, told}
+use Rattle.store.specs.Calls.{Call, Event, called, Reply, told}
 use Rattle.store.specs.State.{bare}
 use Rattle.store.specs.Trace.{Steps}
 use Rattle.store.specs.Widths.{Named}
@@ -49,6 +49,10 @@ pub record Passed (E : Entry) : Type 0 where
 
 abbrev pub call : (E : Entry) → Passed E → Call
 call E p = record { request = E .request (p .request); input = p .input; buffer = p .buffer }
+
+-- the call as an event of a history
+abbrev pub event : (E : Entry) → Passed E → Event
+event E p = called (call E p)
 
 -- what it gives back, and the table and the buffer as it left them
 pub record Result (E : Entry) : Type 0 where

@@ -52,7 +52,7 @@ fn summary(store: Store, sites: [Site; 512], places: usize) -> Summary
 }
 
 // Row 0.
-fn row_zero(store: Store, sites: [Site; 512], places: usize) -> bool
+pub fn row_zero(store: Store, sites: [Site; 512], places: usize) -> bool
     ensures { λ r. ⌜ ((e : Edition) (table : List Site) → places ≡ length table → take places sites ≡ take 512 table → r ≡ corrupt (on e store table)) ⌝ }
 {
     let count = store.count;

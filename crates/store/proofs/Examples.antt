@@ -1,5 +1,5 @@
--- T, two own sites of 4, two sites of one pair, thresholds, lists written out, and edition 2: histories with their replies, the rows of every call among them, and replies of wrong stores, which no model gives. Assumes nothing.
-use mathlib.Core.Path.{_≡_, refl, sym, ap, ap₂, _∙_, subst}
+-- T, two own sites of 4, two sites of one pair, thresholds, lists written out, edition 2, and T gone over to edition 2: histories with their replies, the rows of every call among them, and replies of wrong stores, which no model gives. Assumes nothing.
+use mathlib.Core.Path.{_≡_, refl, sym, ap, ap₂, _∙_}
 use mathlib.Core.Logic.{inl, inr, ⊎-elim}
 use mathlib.Core.Bool.{Bool, true, _&&_}
 use mathlib.Core.List.{List, [], _∷_, _++_, flatMap}
@@ -19,7 +19,7 @@ use Rattle.density.specs.Groups.{Decomposition}
 use Rattle.density.specs.Plan.{union, place, carrier, groupSize, groupLitres, whole, firstShare, secondShare, shareOf, target, TruePlan}
 use Rattle.density.specs.Rows.{firstRow, groupsMeet, groupsUnlisted, shareBroken, sharesBroken, scaledLoad, loadsUneven, groupsRise, planRows}
 use Rattle.density.specs.Figures.{depotLitres, depotSize, difference, divisor, differenceOf, groupsRead, depotsRead}
-use Rattle.density.specs.Examples.{pair, starred}
+use Rattle.density.specs.Examples.{pair, own, starred}
 use Rattle.density.proofs.Examples.{starred-known}
 use Rattle.density.proofs.Lists.{valid}
 use Rattle.density.proofs.Figures.{depot-litres, depot-size, site-whole}
@@ -34,16 +34,17 @@ use Rattle.records.specs.Samples.{listT, planT, listBig, planBig}
 use Rattle.records.proofs.Samples.{marked1, marked2}
 use Rattle.store.specs.declared.Request.{Request}
 use Rattle.store.specs.declared.Request.the-variants.{Load, Change, Add, Propose, Share, Depot, Difference, Written, AtLeast, ListWritten}
-use Rattle.store.specs.Calls.{Call, Reply, refused, done, shared, loaded, differ, wrote, reached}
+use Rattle.store.specs.Calls.{Call, Event, called, migrate, Reply, unbuffered, refused, done, shared, loaded, differ, wrote, reached}
 use Rattle.judge.specs.Check.{True}
-use Rattle.store.specs.Model.{Model, emptyModel, Proposes, turned, turn, modelRows, proposalRows}
+use Rattle.store.specs.Model.{Model, emptyModel, Proposes, Says, Follows, turned, turn, modelRows, proposalRows}
 use Rattle.held_state.specs.Held.{State}
-use Rattle.store.specs.State.{modelOf}
-use Rattle.store.specs.Examples.{call, reply, modelBy, model, plansT, callsT, repliesT, sitesT, loadedT, plannedT, listO, callsO, repliesO, sitesO, loadedO, plannedO, listP, planP, callsP, repliesP, sitesP, loadedP, plannedP, callsR, repliesR, listM, planM, callsM, repliesM, sitesM, loadedM, plannedM, thresholdsM, setsM, listL, callsL, repliesL, addedL, callsB, listB, repliesB, sitesB, loadedB, plannedB, addedB, nth, nthBuffer}
-use Rattle.store.specs.Trace.{start, then, History, Modelled, AllBytes, lastPassed}
+use Rattle.store.specs.State.{modelOf, fresh}
+use Rattle.store.specs.Examples.{call, events, reply, modelBy, model, plansT, callsT, repliesT, sitesT, loadedT, plannedT, listO, callsO, repliesO, sitesO, loadedO, plannedO, listP, planP, callsP, repliesP, sitesP, loadedP, plannedP, callsR, repliesR, listM, planM, callsM, repliesM, sitesM, loadedM, plannedM, thresholdsM, setsM, listL, callsL, repliesL, addedL, callsB, listB, repliesB, sitesB, loadedB, plannedB, addedB, listE, planE, afterE, eventsE, repliesE, overT, addedE, nth, nthBuffer}
+use Rattle.store.specs.Trace.{Run, start, then, History, Modelled, AllBytes, traced, trace}
 use Rattle.store.proofs.Plans.{true-of-rows, rows-of-true}
 use Rattle.store.proofs.OneModel.{one-model}
-use Rattle.store.proofs.History.{history}
+use Rattle.store.proofs.History.{followed}
+use Rattle.store.proofs.Steps.{fresh-holds}
 
 -- a plan laid out in these bytes, and true of a list whose depots are in range
 module _ (l : Listing) (g x : List ℕ) (t : TruePlan (network l) g x) where
@@ -78,12 +79,17 @@ are-bytes s t i =
     ⊎-elim (λ l. ltb→lt _ _ (all-at (λ i. ltb (getD s i 0) 256) (length s) t i (ltb→lt i (length s) l)))
     (λ n. rw (List·getD-eq-default s 0 (nltb→le i (length s) (not-T (ltb i (length s)) n))) (lit< tt)) (T? (ltb i (length s)))
 
-are-all : (cs : List Call) → T (inputs cs) → AllBytes cs
+are-all : (cs : List Call) → T (inputs cs) → AllBytes (events cs)
 unfolding inputs AllBytes
 are-all [] t = tt
 are-all (c ∷ cs) t =
     let test = all (λ i. ltb (getD (c .input) i 0) 256) (length (c .input)) in
     (are-bytes (c .input) (and-l test (inputs cs) t), are-all cs (and-r test (inputs cs) t))
+
+-- ---- a call that the model answers, and what follows
+
+next : {b b₁ b₂ : Model} {c : Call} {vs : List Event} {r : Reply} {rs : List Reply} → Says b c r b₁ → Run Follows b₁ vs rs b₂ → Run Follows b (called c ∷ vs) (r ∷ rs) b₂
+next x xs = then (tt, x) xs
 
 -- ---- T
 
@@ -145,12 +151,12 @@ differs-T =
     ap₂ (λ (a d : ℕ × ℕ). turned plannedT (reply (differ (differenceOf (a .0) (a .1) (d .0) (d .1)) (a .1 * d .1)) []))
     (ap₂ (λ (w q : ℕ). (w, q)) (litres-T 0) (size-T 0)) (ap₂ (λ (w q : ℕ). (w, q)) (litres-T 1) (size-T 1))
 
-modelled-T : Modelled edition1 2 callsT repliesT plannedT
+modelled-T : Modelled edition1 2 (events callsT) repliesT plannedT
 modelled-T =
-    then loads-T
-    (then accepts-T
-    (then shares-T
-    (then depot-T-0 (then differs-T (then writes-T (then (refuses edition1 marked1 sitesT (plannedT .plan) (plansT 0x0B) 15 in-range-T (lit≤ tt) refuses-T) (then depot-T-1 start)))))))
+    next loads-T
+    (next accepts-T
+    (next shares-T
+    (next depot-T-0 (next differs-T (next writes-T (next (refuses edition1 marked1 sitesT (plannedT .plan) (plansT 0x0B) 15 in-range-T (lit≤ tt) refuses-T) (next depot-T-1 start)))))))
 
 -- ---- own 0 and own 1 of 4
 
@@ -183,9 +189,9 @@ changes-O : turned loadedO (reply done []) ≡ turn plannedO (call (Change 0 4) 
 unfolding firstRow
 changes-O = refl
 
-modelled-O : Modelled edition1 2 callsO repliesO loadedO
+modelled-O : Modelled edition1 2 (events callsO) repliesO loadedO
 modelled-O =
-    then loads-O (then (refuses edition1 marked1 sitesO none (getD callsO 1 (call Load [] []) .input) 16 in-range-O (lit≤ tt) refuses-O) (then wants-O (then accepts-O (then changes-O (then wants-O start)))))
+    next loads-O (next (refuses edition1 marked1 sitesO none (getD callsO 1 (call Load [] []) .input) 16 in-range-O (lit≤ tt) refuses-O) (next wants-O (next accepts-O (next changes-O (next wants-O start)))))
 
 -- ---- (0,1) of 1 twice
 
@@ -229,8 +235,8 @@ writes-P : turned (plannedP 0 2) (reply (wrote 27) (planP 0x00 0x02 ++ (7 ∷ []
 unfolding firstRow planBytes le flatMap
 writes-P = refl
 
-modelled-P : Modelled edition1 2 callsP repliesP (plannedP 0 2)
-modelled-P = then loads-P (then accepts-P (then accepts-P-again (then shares-P (then writes-P start))))
+modelled-P : Modelled edition1 2 (events callsP) repliesP (plannedP 0 2)
+modelled-P = next loads-P (next accepts-P (next accepts-P-again (next shares-P (next writes-P start))))
 
 -- ---- the rows of the calls
 
@@ -289,15 +295,15 @@ written-20 : Leaves plannedT Written (replicate 20 7) 20
 unfolding firstRow planBytes le flatMap
 written-20 = refl
 
-modelled-R : Modelled edition1 2 callsR repliesR plannedT
+modelled-R : Modelled edition1 2 (events callsR) repliesR plannedT
 modelled-R =
-    then first-17
-    (then loads-T
-    (then change-6
-    (then change-18
-    (then add-5
-    (then add-6
-    (then adds (then add-2 (then loads-again (then accepts-T (then share-18 (then depot-19 (then difference-19 (then written-20 start)))))))))))))
+    next first-17
+    (next loads-T
+    (next change-6
+    (next change-18
+    (next add-5
+    (next add-6
+    (next adds (next add-2 (next loads-again (next accepts-T (next share-18 (next depot-19 (next difference-19 (next written-20 start)))))))))))))
 
 -- ---- thresholds
 
@@ -341,15 +347,15 @@ computed-M = tt
 answers-M : (k : ℕ) → k < length thresholdsM → Answers (getD thresholdsM k 0) (getD setsM k 0)
 answers-M k l = by-groups (getD thresholdsM k 0) (getD setsM k 0) (eqb→eq _ _ (all-at (λ k. eqb _ (getD setsM k 0)) (length thresholdsM) computed-M k l))
 
-modelled-M : Modelled edition1 2 callsM repliesM plannedM
+modelled-M : Modelled edition1 2 (events callsM) repliesM plannedM
 modelled-M =
-    then loads-M
-    (then wants-M
-    (then accepts-M
-    (then (answers-M 0 (lit< tt))
-    (then (answers-M 1 (lit< tt))
-    (then (answers-M 2 (lit< tt))
-    (then (answers-M 3 (lit< tt)) (then (answers-M 4 (lit< tt)) (then (answers-M 5 (lit< tt)) (then (answers-M 6 (lit< tt)) start)))))))))
+    next loads-M
+    (next wants-M
+    (next accepts-M
+    (next (answers-M 0 (lit< tt))
+    (next (answers-M 1 (lit< tt))
+    (next (answers-M 2 (lit< tt))
+    (next (answers-M 3 (lit< tt)) (next (answers-M 4 (lit< tt)) (next (answers-M 5 (lit< tt)) (next (answers-M 6 (lit< tt)) start)))))))))
 
 -- ---- the list written out
 
@@ -385,11 +391,11 @@ added-out : WritesOut addedL (replicate 16 7) 16 listL
 unfolding firstRow listBytes le flatMap
 added-out = refl
 
-modelled-L : Modelled edition1 2 callsL repliesL addedL
+modelled-L : Modelled edition1 2 (events callsL) repliesL addedL
 modelled-L =
-    then empty-out
-    (then empty-20
-    (then loads-T (then loaded-out (then loaded-20 (then accepts-T (then planned-out (then adds-L (then added-out start))))))))
+    next empty-out
+    (next empty-20
+    (next loads-T (next loaded-out (next loaded-20 (next accepts-T (next planned-out (next adds-L (next added-out start))))))))
 
 -- ---- edition 2
 
@@ -448,72 +454,150 @@ added-B-out : WritesOut addedB (replicate 20 7) 20 listB
 unfolding firstRow listBytes le flatMap
 added-B-out = refl
 
-modelled-B : Modelled edition2 2 callsB repliesB addedB
+modelled-B : Modelled edition2 2 (events callsB) repliesB addedB
 modelled-B =
-    then load-1
-    (then loads-B
-    (then (refuses edition2 marked2 sitesB none planT 7 in-range-B (lit≤ tt) plan-7)
-    (then accepts-B (then shares-B (then depot-B (then writes-B (then adds-B (then added-B-out start))))))))
+    next load-1
+    (next loads-B
+    (next (refuses edition2 marked2 sitesB none planT 7 in-range-B (lit≤ tt) plan-7)
+    (next accepts-B (next shares-B (next depot-B (next writes-B (next adds-B (next added-B-out start))))))))
+
+-- ---- T goes over to edition 2
+
+-- a new table without places, and one of three
+over-2 : Follows plannedT (migrate []) (unbuffered (refused 2)) plannedT
+unfolding firstRow
+over-2 = (refl, refl)
+
+over-E : (z : Site) → Follows plannedT (migrate (replicate 3 z)) (unbuffered done) overT
+unfolding firstRow
+over-E z = (refl, refl)
+
+shares-E : turned overT (reply (shared 10 20) []) ≡ turn overT (call (Share 0) [] [])
+unfolding firstRow network sum has weigh size place carrier groupSize whole
+shares-E = ap (λ (w : ℕ). turned overT (reply (shared 10 w) [])) (site-whole N (valid sitesT in-range-T) (3 ∷ []) (true-plan-T .groups) 0)
+
+depot-E : turned overT (reply (loaded 10 2) []) ≡ turn overT (call (Depot 0) [] [])
+unfolding firstRow network any sum has weigh size place carrier groupSize groupLitres
+depot-E = ap₂ (λ (w q : ℕ). turned overT (reply (loaded w q) [])) (litres-T 0) (size-T 0)
+
+writes-E : turned overT (reply (wrote 25) (planE ++ (7 ∷ []))) ≡ turn overT (call Written [] (replicate 26 7))
+unfolding firstRow planBytes le flatMap
+writes-E = refl
+
+written-20-E : Leaves overT Written (replicate 24 7) 20
+unfolding firstRow planBytes le flatMap
+written-20-E = refl
+
+list-E : WritesOut overT (replicate 13 7) 12 (listE ++ (7 ∷ []))
+unfolding firstRow listBytes le flatMap
+list-E = refl
+
+list-20-E : Leaves overT ListWritten (replicate 11 7) 20
+unfolding firstRow listBytes le flatMap
+list-20-E = refl
+
+-- plans and lists of edition 1
+plan-7-E : firstRow (modelRows overT (call Propose planT [])) ≡ some 7
+unfolding firstRow value records sum any has weigh size network planRows groupsMeet groupsUnlisted sharesBroken shareBroken loadsUneven scaledLoad shareOf target groupsRise place union carrier groupSize groupLitres whole firstShare secondShare
+plan-7-E = refl
+
+refuses-E : Proposes overT (call Propose planT []) (reply (refused 7) []) overT
+refuses-E =
+    inr (λ q t. Option·none-ne-some 7 (sym (rows-of-true edition2 sitesT (valid sitesT in-range-T) planT marked2 (lit≤ tt) q t) ∙ plan-7-E), 7, plan-7-E, refl, refl)
+
+load-1-E : turned overT (reply (refused 1) []) ≡ turn overT (call Load listT [])
+unfolding firstRow value records any
+load-1-E = refl
+
+-- litres of 17 bits, and as many sites as the new table has places
+adds-E : turned (addedE (own 1 65536 ∷ [])) (reply done []) ≡ turn overT (call (Add 1 1 65536) [] [])
+unfolding firstRow
+adds-E = refl
+
+adds-again-E : turned (addedE (own 1 65536 ∷ own 1 1 ∷ [])) (reply done []) ≡ turn (addedE (own 1 65536 ∷ [])) (call (Add 1 1 1) [] [])
+unfolding firstRow
+adds-again-E = refl
+
+full-E : Leaves (addedE (own 1 65536 ∷ own 1 1 ∷ [])) (Add 1 1 1) [] 2
+unfolding firstRow
+full-E = refl
+
+modelled-E : (z : Site) → Modelled edition1 2 (eventsE z) repliesE (addedE (own 1 65536 ∷ own 1 1 ∷ []))
+modelled-E z =
+    next loads-T
+    (next accepts-T
+    (then over-2
+    (then (over-E z)
+    (next shares-E
+    (next depot-E
+    (next writes-E
+    (next written-20-E
+    (next list-E (next list-20-E (next refuses-E (next load-1-E (next adds-E (next adds-again-E (next full-E start))))))))))))))
 
 -- ---- the store's history has these replies
 
 -- what the model answers, the store answers on any table of two places
-has-history : {e : Edition} → Marked e → (calls : List Call) (replies : List Reply) (b : Model) → Modelled e 2 calls replies b → AllBytes calls → (x y : Site)
-    → (s : State) × History e (x ∷ y ∷ []) calls replies s × (modelOf s ≡ b)
-has-history {e} m calls replies b run bytes x y =
-    let (rs, s, h, exact) = history e m (x ∷ y ∷ []) calls bytes in
-    let only = exact .only replies b run in
-    (s, subst (λ (rs : List Reply). History e (x ∷ y ∷ []) calls rs s) (sym (only .0)) h, sym (only .1))
+has-history : {e : Edition} → Marked e → (vs : List Event) (replies : List Reply) (b : Model) → Modelled e 2 vs replies b → AllBytes vs → (x y : Site)
+    → (s : State) × History e (x ∷ y ∷ []) vs replies s × (modelOf s ≡ b)
+has-history {e} m vs replies b run bytes x y =
+    let (s, h, same, marked, holds) = followed run (fresh e (x ∷ y ∷ [])) refl m (fresh-holds e (x ∷ y ∷ [])) bytes in
+    (s, h, sym same)
 
-pub history-T : (x y : Site) → (s : State) × History edition1 (x ∷ y ∷ []) callsT repliesT s × (modelOf s ≡ plannedT)
+pub history-T : (x y : Site) → (s : State) × History edition1 (x ∷ y ∷ []) (events callsT) repliesT s × (modelOf s ≡ plannedT)
 unfolding inputs all
-history-T = has-history marked1 callsT repliesT plannedT modelled-T (are-all callsT tt)
+history-T = has-history marked1 (events callsT) repliesT plannedT modelled-T (are-all callsT tt)
 
-pub history-O : (x y : Site) → (s : State) × History edition1 (x ∷ y ∷ []) callsO repliesO s × (modelOf s ≡ loadedO)
+pub history-O : (x y : Site) → (s : State) × History edition1 (x ∷ y ∷ []) (events callsO) repliesO s × (modelOf s ≡ loadedO)
 unfolding inputs all
-history-O = has-history marked1 callsO repliesO loadedO modelled-O (are-all callsO tt)
+history-O = has-history marked1 (events callsO) repliesO loadedO modelled-O (are-all callsO tt)
 
-pub history-P : (x y : Site) → (s : State) × History edition1 (x ∷ y ∷ []) callsP repliesP s × (modelOf s ≡ plannedP 0 2)
+pub history-P : (x y : Site) → (s : State) × History edition1 (x ∷ y ∷ []) (events callsP) repliesP s × (modelOf s ≡ plannedP 0 2)
 unfolding inputs all
-history-P = has-history marked1 callsP repliesP (plannedP 0 2) modelled-P (are-all callsP tt)
+history-P = has-history marked1 (events callsP) repliesP (plannedP 0 2) modelled-P (are-all callsP tt)
 
-pub history-R : (x y : Site) → (s : State) × History edition1 (x ∷ y ∷ []) callsR repliesR s × (modelOf s ≡ plannedT)
+pub history-R : (x y : Site) → (s : State) × History edition1 (x ∷ y ∷ []) (events callsR) repliesR s × (modelOf s ≡ plannedT)
 unfolding inputs all
-history-R = has-history marked1 callsR repliesR plannedT modelled-R (are-all callsR tt)
+history-R = has-history marked1 (events callsR) repliesR plannedT modelled-R (are-all callsR tt)
 
-pub history-M : (x y : Site) → (s : State) × History edition1 (x ∷ y ∷ []) callsM repliesM s × (modelOf s ≡ plannedM)
+pub history-M : (x y : Site) → (s : State) × History edition1 (x ∷ y ∷ []) (events callsM) repliesM s × (modelOf s ≡ plannedM)
 unfolding inputs all
-history-M = has-history marked1 callsM repliesM plannedM modelled-M (are-all callsM tt)
+history-M = has-history marked1 (events callsM) repliesM plannedM modelled-M (are-all callsM tt)
 
-pub history-L : (x y : Site) → (s : State) × History edition1 (x ∷ y ∷ []) callsL repliesL s × (modelOf s ≡ addedL)
+pub history-L : (x y : Site) → (s : State) × History edition1 (x ∷ y ∷ []) (events callsL) repliesL s × (modelOf s ≡ addedL)
 unfolding inputs all
-history-L = has-history marked1 callsL repliesL addedL modelled-L (are-all callsL tt)
+history-L = has-history marked1 (events callsL) repliesL addedL modelled-L (are-all callsL tt)
 
-pub history-B : (x y : Site) → (s : State) × History edition2 (x ∷ y ∷ []) callsB repliesB s × (modelOf s ≡ addedB)
+pub history-B : (x y : Site) → (s : State) × History edition2 (x ∷ y ∷ []) (events callsB) repliesB s × (modelOf s ≡ addedB)
 unfolding inputs all
-history-B = has-history marked2 callsB repliesB addedB modelled-B (are-all callsB tt)
+history-B = has-history marked2 (events callsB) repliesB addedB modelled-B (are-all callsB tt)
 
--- the proposal that passed last, by these calls and replies: of T its plan, of the own sites none after the change, of the pair the second, of the lists
+pub history-E : (x y z : Site) → (s : State) × History edition1 (x ∷ y ∷ []) (eventsE z) repliesE s × (modelOf s ≡ addedE (own 1 65536 ∷ own 1 1 ∷ []))
+unfolding inputs all AllBytes
+history-E x y z =
+    has-history marked1 (eventsE z) repliesE (addedE (own 1 65536 ∷ own 1 1 ∷ [])) (modelled-E z)
+    (are-bytes listT tt, (are-bytes planT tt, (tt, (tt, are-all afterE tt)))) x y
+
+-- the proposal that passed last, by these calls and replies, on a table of any places: of T its plan, of the own sites none after the change, of the pair the second, of the lists
 -- written out none after a site was added
-pub last-T : lastPassed none callsT repliesT ≡ some (plansT 0x0A)
-unfolding lastPassed
-last-T = refl
+pub last-T : (table : List Site) → trace edition1 table (events callsT) repliesT .proposal ≡ some (record { edition = edition1; bytes = plansT 0x0A })
+unfolding traced
+last-T table = refl
 
-pub last-O : lastPassed none callsO repliesO ≡ none
-unfolding lastPassed
-last-O = refl
+pub last-O : (table : List Site) → trace edition1 table (events callsO) repliesO .proposal ≡ none
+unfolding traced
+last-O table = refl
 
-pub last-P : lastPassed none callsP repliesP ≡ some (planP 0x00 0x02)
-unfolding lastPassed
-last-P = refl
+pub last-P : (table : List Site) → trace edition1 table (events callsP) repliesP .proposal ≡ some (record { edition = edition1; bytes = planP 0x00 0x02 })
+unfolding traced
+last-P table = refl
 
-pub last-L : lastPassed none callsL repliesL ≡ none
-unfolding lastPassed
-last-L = refl
+pub last-L : (table : List Site) → trace edition1 table (events callsL) repliesL .proposal ≡ none
+unfolding traced
+last-L table = refl
 
 -- ---- what no model answers, and so no history has
 
-module _ (rs : List Reply) (b : Model) (run : Modelled edition1 2 callsT rs b) where
+module _ (rs : List Reply) (b : Model) (run : Modelled edition1 2 (events callsT) rs b) where
   is-T : (i : ℕ) → nth i repliesT ≡ nth i rs
   is-T i = ap (nth i) (one-model modelled-T run .0)
 
@@ -540,7 +624,7 @@ module _ (rs : List Reply) (b : Model) (run : Modelled edition1 2 callsT rs b) w
   pub not-another-share : (x w : ℕ) → nth 2 rs ≡ shared x w → (x ≡ 10) × (w ≡ 20)
   not-another-share x w h = let e : shared 10 20 ≡ shared x w = is-T 2 ∙ h in (cc, cc)
 
-module _ (rs : List Reply) (b : Model) (run : Modelled edition1 2 callsO rs b) where
+module _ (rs : List Reply) (b : Model) (run : Modelled edition1 2 (events callsO) rs b) where
   is-O : (i : ℕ) → nth i repliesO ≡ nth i rs
   is-O i = ap (nth i) (one-model modelled-O run .0)
 
@@ -556,7 +640,7 @@ module _ (rs : List Reply) (b : Model) (run : Modelled edition1 2 callsO rs b) w
   pub not-kept : (w q : ℕ) → nth 5 rs ≡ loaded w q → ⊥
   not-kept w q h = let e : refused 17 ≡ loaded w q = is-O 5 ∙ h in let z : _≡_ {A = ℕ} 0 1 = cc in omega arith
 
-module _ (rs : List Reply) (b : Model) (run : Modelled edition1 2 callsM rs b) where
+module _ (rs : List Reply) (b : Model) (run : Modelled edition1 2 (events callsM) rs b) where
   is-M : (i : ℕ) → nth i repliesM ≡ nth i rs
   is-M i = ap (nth i) (one-model modelled-M run .0)
 
@@ -572,7 +656,7 @@ module _ (rs : List Reply) (b : Model) (run : Modelled edition1 2 callsM rs b) w
   pub not-16-bits : (x : ℕ) → nth 8 rs ≡ reached x → x ≡ 0
   not-16-bits x h = let e : reached 0 ≡ reached x = is-M 8 ∙ h in cc
 
-module _ (rs : List Reply) (b : Model) (run : Modelled edition1 2 callsL rs b) where
+module _ (rs : List Reply) (b : Model) (run : Modelled edition1 2 (events callsL) rs b) where
   is-L : (i : ℕ) → nth i repliesL ≡ nth i rs
   is-L i = ap (nth i) (one-model modelled-L run .0)
 
@@ -599,7 +683,7 @@ module _ (rs : List Reply) (b : Model) (run : Modelled edition1 2 callsL rs b) w
   pub not-the-plan : nth 6 rs ≡ refused 20 → ⊥
   not-the-plan h = let e : wrote 10 ≡ refused 20 = is-L 6 ∙ h in let z : _≡_ {A = ℕ} 0 1 = cc in omega arith
 
-module _ (rs : List Reply) (b : Model) (run : Modelled edition2 2 callsB rs b) where
+module _ (rs : List Reply) (b : Model) (run : Modelled edition2 2 (events callsB) rs b) where
   is-B : (i : ℕ) → nth i repliesB ≡ nth i rs
   is-B i = ap (nth i) (one-model modelled-B run .0)
 
@@ -614,3 +698,33 @@ module _ (rs : List Reply) (b : Model) (run : Modelled edition2 2 callsB rs b) w
   -- litres are not cut to 16 bits: 70,000 would become 4,464
   pub not-cut : (w q : ℕ) → nth 5 rs ≡ loaded w q → (w ≡ 70000) × (q ≡ 2)
   not-cut w q h = let e : loaded 70000 2 ≡ loaded w q = is-B 5 ∙ h in (cc, cc)
+
+module _ (z : Site) (rs : List Reply) (b : Model) (run : Modelled edition1 2 (eventsE z) rs b) where
+  is-E : (i : ℕ) → nth i repliesE ≡ nth i rs
+  is-E i = ap (nth i) (one-model (modelled-E z) run .0)
+
+  buffer-E : (i : ℕ) → nthBuffer i repliesE ≡ nthBuffer i rs
+  buffer-E i = ap (nthBuffer i) (one-model (modelled-E z) run .0)
+
+  -- "too few places gives row 2": the old table's two places do not help the first new one
+  pub not-the-old-places : nth 2 rs ≡ done → ⊥
+  not-the-old-places h = let e : refused 2 ≡ done = is-E 2 ∙ h in let z : _≡_ {A = ℕ} 0 1 = cc in omega arith
+
+  -- "can't drop its plan in season"
+  pub not-dropped-over : (n : ℕ) → nth 4 rs ≡ refused n → ⊥
+  not-dropped-over n h = let e : shared 10 20 ≡ refused n = is-E 4 ∙ h in let z : _≡_ {A = ℕ} 0 1 = cc in omega arith
+
+  -- "each question gets the figure it would have got before"
+  pub not-another-figure : (w q : ℕ) → nth 5 rs ≡ loaded w q → (w ≡ 10) × (q ≡ 2)
+  not-another-figure w q h = let e : loaded 10 2 ≡ loaded w q = is-E 5 ∙ h in (cc, cc)
+
+  -- the plan and the list written out are "now in edition 2", "with length and row 20 counted by" the longer records
+  pub written-over : (nth 6 rs ≡ wrote 25) × (nthBuffer 6 rs ≡ planE ++ (7 ∷ [])) × (nth 7 rs ≡ refused 20)
+  written-over = (sym (is-E 6), sym (buffer-E 6), sym (is-E 7))
+
+  pub list-over : (nth 8 rs ≡ wrote 12) × (nthBuffer 8 rs ≡ listE ++ (7 ∷ [])) × (nth 9 rs ≡ refused 20)
+  list-over = (sym (is-E 8), sym (buffer-E 8), sym (is-E 9))
+
+  -- "from there on with the new table and its places": a third site fits, and a fourth does not
+  pub places-over : (nth 13 rs ≡ done) × (nth 14 rs ≡ refused 2)
+  places-over = (sym (is-E 13), sym (is-E 14))

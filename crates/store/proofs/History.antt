@@ -1,14 +1,14 @@
--- Demand 3: whatever calls a fresh store gets, it answers them as the model does, and holds what the model holds. Assumes nothing.
-use mathlib.Core.Path.{_≡_, refl, sym, ap, ap₂, _∙_, subst}
+-- Demand 3: whatever calls a fresh store gets, and wherever it goes over to edition 2, it answers as the model does, and holds what the model holds. Assumes nothing.
+use mathlib.Core.Path.{_≡_, refl, sym, ap, _∙_, subst}
 use mathlib.Core.Logic.{_↔_, inl, inr}
 use mathlib.Core.Bool.{Bool, true, false, cond, _||_, true≢false}
-use mathlib.Core.List.{List, [], _∷_, _++_}
-use mathlib.Core.Option.{Option, none, some}
+use mathlib.Core.List.{List, [], _∷_, _++_, map}
+use mathlib.Core.Option.{Option, none, some, Option·none-ne-some}
 use Prim.Native.Nat.{ℕ, _*_}
 use native.Mathlib.Omega.{arith}
 use lib.Dec.{leb}
 use lib.IntN.{ℤ}
-use lib.ListN.{length, getD, replicate, length-replicate}
+use lib.ListN.{getD, replicate, length-replicate}
 use Rattle.sets.specs.Set.{_⊆_, has, setOf}
 use Rattle.density.specs.declared.Site.{Site}
 use Rattle.density.specs.Network.{Listing, Network, network, noSite}
@@ -21,45 +21,52 @@ use Rattle.density.proofs.AtLeast.{by-is, every-is, at-least-zero, at-least-few
 use Rattle.records.specs.declared.Edition.{Edition}
 use Rattle.records.specs.Bytes.{Bytes}
 use Rattle.records.specs.Values.{Plan}
-use Rattle.records.specs.Format.{edition1, edition2, planOf}
-use Rattle.records.specs.Write.{listBytes, planBytes, onto, isShort, All, Marked}
+use Rattle.records.specs.Format.{edition1, edition2}
+use Rattle.records.specs.Write.{planBytes, isShort, All, Marked}
 use Rattle.records.proofs.Samples.{marked1, marked2}
 use Rattle.store.specs.declared.Request.{Request}
 use Rattle.store.specs.declared.Request.the-variants.{Load, Change, Add, Propose, Share, Depot, Difference, Written, AtLeast, ListWritten}
-use Rattle.store.specs.Calls.{Call, Reply, Told, same, putOut, refused, done, shared, loaded, differ, wrote, reached}
+use Rattle.store.specs.Calls.{Call, Event, called, Reply, Told, same, putOut, refused, done, shared, loaded, differ, wrote, reached}
 use Rattle.judge.specs.Check.{True}
-use Rattle.store.specs.Model.{Model, missing, held, count, unlisted, rowsOf, modelRows, Turn, Turns, Proposes, SaysOf, Says, grantOf, settled, turned}
+use Rattle.store.specs.Model.{Model, emptyModel, missing, held, count, unlisted, rowsOf, modelRows, Turn, Turns, Proposes, SaysOf, Says, Possible, Follows, grantOf, settled, turned}
 use Rattle.held_state.specs.Held.{State, planHeld, listOf, corrupt}
-use Rattle.store.specs.State.{Done, modelOf, fresh, stays, effectOf, settle, step}
-use Rattle.store.specs.Trace.{Run, start, then, Steps, History, Modelled, AllBytes, lastPassed, planFrom, Question, Exact, SameFigures}
+use Rattle.store.specs.State.{Done, modelOf, fresh, effectOf, settle, step, stepOn}
+use Rattle.store.specs.Trace.{Run, start, then, Steps, Goes, History, Modelled, AllPossible, InBytes, AllBytes, Proposal, MadeIn, Traced, traced, begun, trace, proposedPlan, planFrom, writtenAs, Question, Exact, SameFigures}
 use Rattle.store.proofs.Rules.{granted-not-refused}
-use Rattle.store.proofs.Steps.{Holds, holds-valid, Fed, fed, fresh-holds, row-zero-off, kept, not-zero}
-use Rattle.store.proofs.LastPassed.{Backed, run-backed, backed-from, backed-true, none-from}
-use Rattle.store.proofs.OneModel.{one-run, one-model, one-says}
+use Rattle.store.proofs.Steps.{Holds, holds-valid, Fed, fresh-holds, row-zero-off, kept}
+use Rattle.store.proofs.LastPassed.{backed-from, backed-true, none-from}
+use Rattle.store.proofs.Migrate.{Agrees, goes-on, gone-on, migration-or-row-2, each-held}
+use Rattle.store.proofs.SameAnswers.{same-through}
+use Rattle.store.proofs.Writers.{plan-replies, list-replies}
+use Rattle.store.proofs.OneModel.{one-run, one-model, one-follows}
 
 -- ---- a run of steps is a run of the model
 
-record Reached (s : State) (calls : List Call) (replies : List Reply) (s' : State) : Type 0 where
-  model : Run Says (modelOf s) calls replies (modelOf s')
+-- t is what the events and replies before tell
+record Reached (s : State) (t : Traced) (events : List Event) (replies : List Reply) (s' : State) : Type 0 where
+  model : Run Follows (modelOf s) events replies (modelOf s')
   holds : Holds s'
-  edition : s' .edition ≡ s .edition
-  places : length (s' .table) ≡ length (s .table)
+  marked : Marked (s' .edition)
+  agrees : Agrees (traced t events replies) s'
   never-zero : All (λ (r : Reply). r .answer ≡ refused 0 → ⊥) replies
 
-run-reached : {s s' : State} {calls : List Call} {replies : List Reply} → Run Steps s calls replies s' → Marked (s .edition) → Holds s → AllBytes calls
-    → Reached s calls replies s'
-unfolding AllBytes
-run-reached start m h b = record { model = start; holds = h; edition = refl; places = refl; never-zero = tt }
-run-reached (then {s = s} {s₁ = s₁} {c = c} {r = r} x xs) m h b =
-    let k = kept s c m h (fed (c .request) (c .input) (b .0)) r s₁ x in
-    let rest = run-reached xs (subst Marked (sym (k .edition)) m) (k .holds) (b .1) in
+run-reached : {s s' : State} {events : List Event} {replies : List Reply} → Run Goes s events replies s' → Marked (s .edition) → Holds s → AllBytes events
+    → (t : Traced) → Agrees t s → Reached s t events replies s'
+unfolding AllBytes traced
+run-reached start m h b t a = record { model = start; holds = h; marked = m; agrees = a; never-zero = tt }
+run-reached (then {s = s} {s₁ = s₁} {v = v} {r = r} x xs) m h b t a =
+    let k = gone-on s m h v r s₁ (b .0) x in
+    let rest = run-reached xs (k .marked) (k .holds) (b .1) _ (k .agrees t a) in
     record {
-      model = then (k .says) (rest .model);
+      model = then (k .follows) (rest .model);
       holds = rest .holds;
-      edition = rest .edition ∙ k .edition;
-      places = rest .places ∙ k .places;
-      never-zero = (not-zero s c r s₁ (h .intact) x, rest .never-zero);
+      marked = rest .marked;
+      agrees = rest .agrees;
+      never-zero = (k .not-zero, rest .never-zero);
     }
+
+fresh-agrees : (e : Edition) (table : List Site) → Agrees (begun e table) (fresh e table)
+fresh-agrees e table = record { edition = refl; places = refl; backed = tt; own = λ p k. absurd (Option·none-ne-some p k) }
 
 -- ---- a question
 
@@ -107,25 +114,19 @@ Answered (wrote n) = Unit {0}
 Answered (reached x) = Unit {0}
 
 -- where a question is answered, a proposal has passed
-some-passed : {a b : Told} (o : Option (List ℕ)) → (a ≡ refused 17) ↔ (o ≡ none) → a ≡ b → Answered b → (bytes : List ℕ) × (o ≡ some bytes)
+some-passed : {a b : Told} (o : Option Proposal) → (a ≡ refused 17) ↔ (o ≡ none) → a ≡ b → Answered b → (p : Proposal) × (o ≡ some p)
 some-passed none w e g = absurd (subst Answered (sym e ∙ w .1 refl) g)
-some-passed (some s) w e g = (s, refl)
+some-passed (some p) w e g = (p, refl)
 
 -- ---- the answers of the model
 
 module _ (b : Model) (c : Call) (r : Reply) (b' : Model) where
-  -- the model's reply to a call whose request is known
-  abbrev replyTo : Request → Option ℕ → Reply
-  replyTo q o = settled o b c (grantOf b c q) .reply
-
-  reply-to : (q : Request) → c .request ≡ q → Turns b c r b' → r ≡ replyTo q (firstRow (rowsOf b c q))
-  reply-to q k t = ap (λ (u : Turn). u .reply) (subst (λ (q : Request). turned b' r ≡ settled (firstRow (rowsOf b c q)) b c (grantOf b c q)) k t)
-
+  -- the model's answer to a call whose request is known
   abbrev answerTo : Request → Option ℕ → Told
-  answerTo q o = replyTo q o .answer
+  answerTo q o = settled o b c (grantOf b c q) .reply .answer
 
   answer-to : (q : Request) → c .request ≡ q → Turns b c r b' → r .answer ≡ answerTo q (firstRow (rowsOf b c q))
-  answer-to q k t = ap (λ (a : Reply). a .answer) (reply-to q k t)
+  answer-to q k t = ap (λ (u : Turn). u .reply .answer) (subst (λ (q : Request). turned b' r ≡ settled (firstRow (rowsOf b c q)) b c (grantOf b c q)) k t)
 
   loaded-is : (d w q : ℕ) (o : Option ℕ) → r .answer ≡ answerTo (Depot d) o → r .answer ≡ loaded w q
       → (w ≡ depotLitres (network (b .list)) d) × (q ≡ depotSize (network (b .list)) d)
@@ -147,15 +148,6 @@ module _ (b : Model) (c : Call) (r : Reply) (b' : Model) where
       → r .answer ≡ reached (setOf (atLeast (network (b .list)) m) 64)
   unfolding firstRow
   reached-is m k e = e ∙ ap (λ (o : Option Plan). answerTo (AtLeast m) (cond (missing o) (some 17) none)) k
-
-  wrote-is : (n : ℕ) (o : Option ℕ) → r ≡ replyTo Written o → r .answer ≡ wrote n
-      → let out : List ℕ = planBytes (b .edition) (held (b .plan)) in
-      (n ≡ length out) × (r .buffer ≡ onto out (c .buffer))
-  wrote-is n none e a =
-      let k : r .answer ≡ replyTo Written none .answer = ap (λ (a : Reply). a .answer) e in
-      (cc, ap (λ (a : Reply). a .buffer) e)
-  wrote-is n (some m) e a =
-      absurd (let k : r .answer ≡ refused m = ap (λ (a : Reply). a .answer) e in let z : _≡_ {A = ℕ} 0 1 = cc in omega arith)
 
   proposed : Proposes b c r b' → (r .answer ≡ done) ↔ ((p : Plan) × True (b .edition) (b .list) p (c .input))
   proposed (inl (p, t, x, y)) = (λ e. (p, t), λ e. ap (λ (r : Reply). r .answer) x)
@@ -180,16 +172,16 @@ module _ (s : State) (h : Holds s) (gs : List ℕ) (dec : Decomposition (network
       let Q = depot-size N ok gs dec in
       (rw (W a, W d, Q a, Q d) refl, rw (Q a, Q d) refl)
 
-module _ {e : Edition} (m : Marked e) {table : List Site} {calls : List Call} {replies : List Reply} {s : State} (h : History e table calls replies s)
-    (bytes : AllBytes calls) where
-  final : Reached (fresh e table) calls replies s
-  final = run-reached h m (fresh-holds e table) bytes
+module _ {e : Edition} (m : Marked e) {table : List Site} {events : List Event} {replies : List Reply} {s : State} (h : History e table events replies s)
+    (bytes : AllBytes events) where
+  final : Reached (fresh e table) (begun e table) events replies s
+  final = run-reached h m (fresh-holds e table) bytes (begun e table) (fresh-agrees e table)
 
   abbrev b : Model
   b = modelOf s
 
   said : (c : Call) (r : Reply) (s' : State) → Fed (c .request) (c .input) → Steps s c r s' → Says b c r (modelOf s')
-  said c r s' f x = kept s c (subst Marked (sym (final .edition)) m) (final .holds) f r s' x .says
+  said c r s' f x = kept s c (final .marked) (final .holds) f r s' x .says
 
   -- what the model says to a call whose request is known
   says-to : (c : Call) (r : Reply) (s' : State) (q : Request) → c .request ≡ q → Fed q (c .input) → Steps s c r s' → SaysOf q b c r (modelOf s')
@@ -213,201 +205,208 @@ module _ {e : Edition} (m : Marked e) {table : List Site} {calls : List Call} {r
       (answer-to b c r (modelOf s') (Difference y d) k (says-to c r s' (Difference y d) k tt x)) a
 
   -- the plan held is that of the proposal that passed last
-  abbrev last : Option (List ℕ)
-  last = lastPassed none calls replies
+  abbrev last : Option Proposal
+  last = trace e table events replies .proposal
 
-  backed : Backed e (b .list) last (b .plan)
-  backed = subst (λ (e : Edition). Backed e (b .list) last (b .plan)) (final .edition) (run-backed (final .model) none tt)
+  plan-held : b .plan ≡ planFrom (count b) last
+  plan-held = backed-from (b .list) last (b .plan) (final .agrees .backed)
 
-  plan-held : b .plan ≡ planFrom e (count b) last
-  plan-held = backed-from e (b .list) last (b .plan) backed
+  plan-true : (p : Proposal) → last ≡ some p → True (p .edition) (b .list) (proposedPlan (count b) p) (p .bytes)
+  plan-true p l = backed-true (b .list) last (b .plan) p (final .agrees .backed) l
 
   wanting : (c : Call) (r : Reply) (s' : State) → Question (c .request) → Steps s c r s' → (r .answer ≡ refused 17) ↔ (last ≡ none)
   wanting c r s' q x =
       let w = question s c (final .holds .intact) r s' q x in
-      let f = none-from e (count b) (planHeld s) (s .store .held) last plan-held in
+      let f = none-from (count b) (planHeld s) (s .store .held) last plan-held in
       (λ a. f .0 (w .0 a), λ a. w .1 (f .1 a))
 
   -- so where a question is answered there is one
   held-last : (c : Call) (r : Reply) (s' : State) (q : Request) → c .request ≡ q → Question q → Steps s c r s' → {a : Told} → r .answer ≡ a → Answered a
-      → (bytes : List ℕ) × (last ≡ some bytes) × (b .plan ≡ some (planOf e (count b) bytes))
+      → (p : Proposal) × (last ≡ some p) × (b .plan ≡ some (proposedPlan (count b) p))
   held-last c r s' q k h x a g =
-      let (bytes, l) = some-passed last (wanting c r s' (subst Question (sym k) h) x) a g in
-      (bytes, l, plan-held ∙ ap (planFrom e (count b)) l)
+      let (p, l) = some-passed last (wanting c r s' (subst Question (sym k) h) x) a g in
+      (p, l, plan-held ∙ ap (planFrom (count b)) l)
 
   site-read : (c : Call) (i : ℕ) (r : Reply) (s' : State) (y w : ℕ) → c .request ≡ Share i → Steps s c r s' → r .answer ≡ shared y w
-      → (bytes : List ℕ) × (last ≡ some bytes) × (y ≡ getD (planOf e (count b) bytes .shares) i 0)
+      → (p : Proposal) × (last ≡ some p) × (y ≡ getD (proposedPlan (count b) p .shares) i 0)
   site-read c i r s' y w k x a =
-      let (bytes, l, p) = held-last c r s' (Share i) k tt x a tt in
-      (bytes, l, site-says c i r s' y w k x a .0 ∙ ap (λ (m : Option Plan). getD (held m .shares) i 0) p)
+      let (p, l, q) = held-last c r s' (Share i) k tt x a tt in
+      (p, l, site-says c i r s' y w k x a .0 ∙ ap (λ (m : Option Plan). getD (held m .shares) i 0) q)
 
   -- with a plan the depots that reach a threshold are answered, by the definition on the list alone
-  reached-says : (c : Call) (n : ℕ) (r : Reply) (s' : State) (bytes : List ℕ) → c .request ≡ AtLeast n → Steps s c r s' → last ≡ some bytes
+  reached-says : (c : Call) (n : ℕ) (r : Reply) (s' : State) (p : Proposal) → c .request ≡ AtLeast n → Steps s c r s' → last ≡ some p
       → r .answer ≡ reached (setOf (atLeast (network (b .list)) n) 64)
-  reached-says c n r s' bytes k x l =
-      reached-is b c r (modelOf s') n (plan-held ∙ ap (planFrom e (count b)) l) (answer-to b c r (modelOf s') (AtLeast n) k (says-to c r s' (AtLeast n) k tt x))
+  reached-says c n r s' p k x l =
+      reached-is b c r (modelOf s') n (plan-held ∙ ap (planFrom (count b)) l) (answer-to b c r (modelOf s') (AtLeast n) k (says-to c r s' (AtLeast n) k tt x))
 
   reached-so : (c : Call) (n : ℕ) (r : Reply) (s' : State) (y : ℕ) → c .request ≡ AtLeast n → Steps s c r s' → r .answer ≡ reached y
       → y ≡ setOf (atLeast (network (b .list)) n) 64
   reached-so c n r s' y k x a =
-      let (bytes, l, p) = held-last c r s' (AtLeast n) k tt x a tt in
-      let z = reached-says c n r s' bytes k x l in
+      let (p, l, q) = held-last c r s' (AtLeast n) k tt x a tt in
+      let z = reached-says c n r s' p k x l in
       cc
 
   -- "the book's plan stands at the front of the buffer byte for byte"
-  written : (c : Call) (r : Reply) (s' : State) (n : ℕ) → c .request ≡ Written → Steps s c r s' → r .answer ≡ wrote n
-      → (bytes : List ℕ) × (last ≡ some bytes) × (n ≡ length bytes) × (r .buffer ≡ onto bytes (c .buffer))
-  written c r s' n k x a =
-      let (bytes, l, p) = held-last c r s' Written k tt x a tt in
-      let w = wrote-is b c r (modelOf s') n (firstRow (rowsOf b c Written)) (reply-to b c r (modelOf s') Written k (says-to c r s' Written k tt x)) a in
-      let same : planBytes (b .edition) (held (b .plan)) ≡ bytes =
-      ap₂ (λ (e : Edition) (m : Option Plan). planBytes e (held m)) (final .edition) p
-      ∙ sym (backed-true e (b .list) last (b .plan) bytes backed l .layout .bytes-are) in
-      (bytes, l, w .0 ∙ ap length same, w .1 ∙ ap (λ (z : List ℕ). onto z (c .buffer)) same)
-
-  -- the list held, or row 20
-  list-by : (c : Call) (bytes : List ℕ) (t : Bool)
-      → settle (cond t (some 20) none) s c (stays s (putOut c bytes)) ≡ stays s (cond t (same c (refused 20)) (putOut c bytes))
-  list-by c bytes true = refl
-  list-by c bytes false = refl
-
-  list-out : (c : Call) (r : Reply) (s' : State) → c .request ≡ ListWritten → Steps s c r s'
-      → let bytes : List ℕ = listBytes e (b .list) in
-      (s' ≡ s) × (r ≡ cond (isShort (c .buffer) bytes) (same c (refused 20)) (putOut c bytes))
-  unfolding firstRow
-  list-out c r s' k x =
-      let bytes = listBytes (s .edition) (listOf s) in
-      let d : record { after = s'; reply = r } ≡ stays s (cond (isShort (c .buffer) bytes) (same c (refused 20)) (putOut c bytes)) =
-      x
-      ∙ ap (λ (o : Option ℕ). settle o s c (effectOf s c (c .request))) (row-zero-off s c (final .holds .intact))
-      ∙ ap (λ (q : Request). settle (firstRow (rowsOf b c q)) s c (effectOf s c q)) k
-      ∙ list-by c bytes (isShort (c .buffer) bytes) in
-      let to-e = ap (λ (e : Edition). let bytes = listBytes e (b .list) in cond (isShort (c .buffer) bytes) (same c (refused 20)) (putOut c bytes)) (final .edition) in
-      (ap (λ (d : Done). d .after) d, ap (λ (d : Done). d .reply) d ∙ to-e)
+  plan-out : (c : Call) (r : Reply) (s' : State) (p : Proposal) → c .request ≡ Written → Steps s c r s' → last ≡ some p
+      → (s' ≡ s)
+      × (r ≡ cond (isShort (c .buffer) (writtenAs s p)) (same c (refused 20)) (putOut c (writtenAs s p)))
+      × (p .edition ≡ s .edition → writtenAs s p ≡ p .bytes)
+  plan-out c r s' p k x l =
+      let out = plan-replies s (final .holds .intact) c r s' (proposedPlan (count b) p) (plan-held ∙ ap (planFrom (count b)) l) k x in
+      (out .0, out .1, λ e. ap (λ (e : Edition). planBytes e (proposedPlan (count b) p)) (sym e) ∙ sym (plan-true p l .layout .bytes-are))
 
   -- Demand 3: every history is as the model has it.
-  pub exact : Exact e table calls replies s
+  pub exact : Exact e table events replies s
   exact =
       record {
         model = final .model;
         only = λ rs b' run. one-model run (final .model);
         never-zero = final .never-zero;
         tidy = final .holds .tidy;
-        sized = final .places;
+        edition = final .agrees .edition;
+        sized = final .agrees .places;
         plan-held = plan-held;
-        plan-true = λ bytes l. backed-true e (b .list) last (b .plan) bytes backed l;
+        plan-true = plan-true;
+        made-in = λ p l. subst (MadeIn p) (sym (final .agrees .edition)) (final .agrees .own p l);
         wanting = wanting;
-        gate = λ c r s' k f x.
-            subst (λ (e : Edition). (r .answer ≡ done) ↔ ((p : Plan) × True e (b .list) p (c .input))) (final .edition)
-            (proposed b c r (modelOf s') (says-to c r s' Propose k f x));
+        gate = λ c r s' k f x. proposed b c r (modelOf s') (says-to c r s' Propose k f x);
         depot-figures = λ c d r s' w q k x a gs dec.
             let ok = holds-valid s (final .holds) in
             let f = depot-says c d r s' w q k x a in
             (f .0 ∙ sym (depot-litres (network (b .list)) ok gs dec d), f .1 ∙ sym (depot-size (network (b .list)) ok gs dec d));
         site-figures = λ c i r s' y w k x a gs dec.
-            let (bytes, l, y-is) = site-read c i r s' y w k x a in
-            (bytes, l, y-is, site-says c i r s' y w k x a .1 ∙ sym (site-whole (network (b .list)) (holds-valid s (final .holds)) gs dec i));
+            let (p, l, y-is) = site-read c i r s' y w k x a in
+            (p, l, y-is, site-says c i r s' y w k x a .1 ∙ sym (site-whole (network (b .list)) (holds-valid s (final .holds)) gs dec i));
         differences = λ c y d r s' z q k x a gs dec.
             let f = difference-says c y d r s' z q k x a in
             let g = difference-is s (final .holds) gs dec y d in
             (f .0 ∙ g .0, f .1 ∙ g .1);
-        written-out = written;
-        at-least = λ c n r s' bytes k x l gs dec.
-            reached-says c n r s' bytes k x l ∙ ap reached (sym (by-is (network (b .list)) (holds-valid s (final .holds)) gs dec n));
-        every-group = λ c n r s' bytes k x l.
-            reached-says c n r s' bytes k x l
-            ∙ ap reached (sym (every-is (network (b .list)) (holds-valid s (final .holds)) _ (backed-true e (b .list) last (b .plan) bytes backed l .groups) n));
-        zero-gives-all = λ c r s' bytes k x l. reached-says c 0 r s' bytes k x l ∙ ap reached (at-least-zero (network (b .list)));
+        written-out = plan-out;
+        at-least = λ c n r s' p k x l gs dec.
+            reached-says c n r s' p k x l ∙ ap reached (sym (by-is (network (b .list)) (holds-valid s (final .holds)) gs dec n));
+        every-group = λ c n r s' p k x l.
+            reached-says c n r s' p k x l ∙ ap reached (sym (every-is (network (b .list)) (holds-valid s (final .holds)) _ (plan-true p l .groups) n));
+        zero-gives-all = λ c r s' p k x l. reached-says c 0 r s' p k x l ∙ ap reached (at-least-zero (network (b .list)));
         higher-gives-fewer = λ c c' n n' r r' s₁ s₂ y y' k k' x x' a a' l.
             subst (λ (z : ℕ). has y' ⊆ has z) (sym (reached-so c n r s₁ y k x a))
             (subst (λ (z : ℕ). has z ⊆ has (setOf (atLeast (network (b .list)) n) 64)) (sym (reached-so c' n' r' s₂ y' k' x' a'))
             (at-least-fewer (network (b .list)) n n' l));
-        list-written-out = list-out;
+        list-written-out = λ c r s' k x. list-replies s (final .holds .intact) c r s' k x;
+        migration = migration-or-row-2 s (final .holds .intact) (each-held s (final .holds));
+        same-answers = same-through s (final .holds .intact) (each-held s (final .holds));
       }
 
--- Every list of calls has a history.
-pub runs : (s : State) (calls : List Call) → (replies : List Reply) × (s' : State) × Run Steps s calls replies s'
-runs s [] = ([], s, start)
-runs s (c ∷ cs) = let (rs, s', run) = runs (step s c .after) cs in (step s c .reply ∷ rs, s', then refl run)
+-- the store's edition has marks of two bytes, as the one it began with
+pub history-marked : {e : Edition} → Marked e → {table : List Site} {events : List Event} {replies : List Reply} {s : State} → History e table events replies s → AllBytes events
+    → Marked (s .edition)
+history-marked m h bytes = final m h bytes .marked
 
-pub history : (e : Edition) → Marked e → (table : List Site) (calls : List Call) → AllBytes calls
-    → (replies : List Reply) × (s : State) × History e table calls replies s × Exact e table calls replies s
-history e m table calls bytes = let (rs, s, run) = runs (fresh e table) calls in (rs, s, run, exact m run bytes)
+-- and it holds what it should
+pub history-holds : {e : Edition} → Marked e → {table : List Site} {events : List Event} {replies : List Reply} {s : State} → History e table events replies s → AllBytes events → Holds s
+history-holds m h bytes = final m h bytes .holds
 
--- The model has exactly one reply to a call, after any calls.
-pub one-reply : {e : Edition} → Marked e → {places : ℕ} {calls : List Call} {replies : List Reply} {b : Model} → Modelled e places calls replies b
-    → AllBytes calls → (c : Call) → Bytes (c .input)
-    → (r : Reply) × (b' : Model) × Says b c r b' × ((r₂ : Reply) (b₂ : Model) → Says b c r₂ b₂ → (r₂ ≡ r) × (b₂ ≡ b'))
-one-reply {e} m {places} {calls} {replies} {b} run bytes c f =
+-- Every list of events that are possible where they come has a history.
+pub runs : (s : State) (events : List Event) → AllPossible s events → (replies : List Reply) × (s' : State) × Run Goes s events replies s'
+unfolding AllPossible
+runs s [] p = ([], s, start)
+runs s (v ∷ vs) p = let (rs, s', run) = runs (stepOn s v .after) vs (p .1) in (stepOn s v .reply ∷ rs, s', then (p .0, refl) run)
+
+-- Calls are possible everywhere.
+pub calls-possible : (s : State) (cs : List Call) → AllPossible s (map called cs)
+unfolding AllPossible
+calls-possible s [] = tt
+calls-possible s (c ∷ cs) = (tt, calls-possible (step s c .after) cs)
+
+pub history : (e : Edition) → Marked e → (table : List Site) (events : List Event) → AllPossible (fresh e table) events → AllBytes events
+    → (replies : List Reply) × (s : State) × History e table events replies s × Exact e table events replies s
+history e m table events p bytes = let (rs, s, run) = runs (fresh e table) events p in (rs, s, run, exact m run bytes)
+
+-- What the model goes through, the store goes through.
+pub followed : {b b' : Model} {events : List Event} {rs : List Reply} → Run Follows b events rs b' → (s : State) → b ≡ modelOf s → Marked (s .edition) → Holds s → AllBytes events
+    → (s' : State) × Run Goes s events rs s' × (b' ≡ modelOf s') × Marked (s' .edition) × Holds s'
+unfolding AllBytes
+followed start s e m h bytes = (s, start, e, m, h)
+followed (then {s₁ = b₁} {v = v} {r = r} x xs) s e m h bytes =
+    let y : Follows (modelOf s) v r b₁ = subst (λ (b : Model). Follows b v r b₁) e x in
+    let d = stepOn s v in
+    let k = goes-on s m h v (y .0) (bytes .0) in
+    let one = one-follows (modelOf s) v r (d .reply) b₁ (modelOf (d .after)) y (k .follows) in
+    let (s', run, f, marked, holds) = followed xs (d .after) (one .1) (k .marked) (k .holds) (bytes .1) in
+    (s', then (y .0, ap (λ (r : Reply). record { after = d .after; reply = r }) (one .0)) run, f, marked, holds)
+
+-- The model has exactly one reply to an event that is possible, after any events.
+pub one-reply : {e : Edition} → Marked e → {places : ℕ} {events : List Event} {replies : List Reply} {b : Model} → Modelled e places events replies b
+    → AllBytes events → (v : Event) → Possible (b .edition) v → InBytes v
+    → (r : Reply) × (b' : Model) × Follows b v r b' × ((r₂ : Reply) (b₂ : Model) → Follows b v r₂ b₂ → (r₂ ≡ r) × (b₂ ≡ b'))
+one-reply {e} m {places} {events} {replies} {b} run bytes v p f =
     let table = replicate places noSite in
-    let (rs, s, h, x) = history e m table calls bytes in
-    let same = x .only replies b (subst (λ (n : ℕ). Modelled e n calls replies b) (sym (length-replicate places noSite)) run) .1 in
-    let r = step s c .reply in
-    let b' = modelOf (step s c .after) in
-    let says : Says b c r b' =
-    subst (λ (b : Model). Says b c r b') (sym same) (said m h bytes c r (step s c .after) (fed (c .request) (c .input) f) refl) in
-    (r, b', says, λ r₂ b₂ y. one-says b c r₂ r b₂ b' y says)
+    let (s, h, same, marked, holds) =
+    followed run (fresh e table) (ap (λ (n : ℕ). emptyModel e n) (sym (length-replicate places noSite))) m (fresh-holds e table) bytes in
+    let d = stepOn s v in
+    let k = goes-on s marked holds v (subst (λ (b : Model). Possible (b .edition) v) same p) f in
+    let follows : Follows b v (d .reply) (modelOf (d .after)) = subst (λ (b : Model). Follows b v (d .reply) (modelOf (d .after))) (sym same) (k .follows) in
+    (d .reply, modelOf (d .after), follows, λ r₂ b₂ y. one-follows b v r₂ (d .reply) b₂ (modelOf (d .after)) y follows)
 
--- Demand 3 at edition 1: nothing is asked but that inputs are bytes.
-pub history1 : (table : List Site) (calls : List Call) → AllBytes calls
-    → (replies : List Reply) × (s : State) × History edition1 table calls replies s × Exact edition1 table calls replies s
+-- Demand 3 at edition 1: nothing is asked but that inputs are bytes, and that the store goes over to edition 2 only where it is of edition 1.
+pub history1 : (table : List Site) (events : List Event) → AllPossible (fresh edition1 table) events → AllBytes events
+    → (replies : List Reply) × (s : State) × History edition1 table events replies s × Exact edition1 table events replies s
 history1 = history edition1 marked1
 
 -- and at edition 2
-pub history2 : (table : List Site) (calls : List Call) → AllBytes calls
-    → (replies : List Reply) × (s : State) × History edition2 table calls replies s × Exact edition2 table calls replies s
+pub history2 : (table : List Site) (events : List Event) → AllPossible (fresh edition2 table) events → AllBytes events
+    → (replies : List Reply) × (s : State) × History edition2 table events replies s × Exact edition2 table events replies s
 history2 = history edition2 marked2
 
 -- It has one only.
-pub one-history : {e : Edition} {table : List Site} {calls : List Call} {rs rs' : List Reply} {s s' : State}
-    → History e table calls rs s → History e table calls rs' s' → (rs ≡ rs') × (s ≡ s')
-one-history = one-run Steps (λ s c r r' s₁ s₂ x y. let e = x ∙ sym y in (ap (λ (d : Done). d .reply) e, ap (λ (d : Done). d .after) e))
+pub one-history : {e : Edition} {table : List Site} {events : List Event} {rs rs' : List Reply} {s s' : State}
+    → History e table events rs s → History e table events rs' s' → (rs ≡ rs') × (s ≡ s')
+one-history = one-run Goes (λ s v r r' s₁ s₂ x y. let e = x .1 ∙ sym (y .1) in (ap (λ (d : Done). d .reply) e, ap (λ (d : Done). d .after) e))
 
--- Any call may follow it.
-extended : {s s' : State} {calls : List Call} {rs : List Reply} → Run Steps s calls rs s' → (c : Call)
-    → Run Steps s (calls ++ (c ∷ [])) (rs ++ (step s' c .reply ∷ [])) (step s' c .after)
-extended start c = then refl start
-extended (then x xs) c = then x (extended xs c)
+-- Any event may follow it that is possible.
+extended : {s s' : State} {events : List Event} {rs : List Reply} → Run Goes s events rs s' → (v : Event) → Possible (s' .edition) v
+    → Run Goes s (events ++ (v ∷ [])) (rs ++ (stepOn s' v .reply ∷ [])) (stepOn s' v .after)
+extended start v p = then (p, refl) start
+extended (then x xs) v p = then x (extended xs v p)
 
-pub extends : {e : Edition} {table : List Site} {calls : List Call} {rs : List Reply} {s : State} → History e table calls rs s → (c : Call)
-    → (r : Reply) × (s' : State) × Steps s c r s' × History e table (calls ++ (c ∷ [])) (rs ++ (r ∷ [])) s'
-extends {s = s} h c = (step s c .reply, step s c .after, refl, extended h c)
+pub extends : {e : Edition} {table : List Site} {events : List Event} {rs : List Reply} {s : State} → History e table events rs s → (v : Event) → Possible (s .edition) v
+    → (r : Reply) × (s' : State) × Goes s v r s' × History e table (events ++ (v ∷ [])) (rs ++ (r ∷ [])) s'
+extends {s = s} h v p = (stepOn s v .reply, stepOn s v .after, (p, refl), extended h v p)
 
--- Each call of a run is a step from a run: the one that the calls before it are.
-pub cut : {s s' : State} (cs : List Call) (c : Call) (ds : List Call) {rs : List Reply} → Run Steps s (cs ++ (c ∷ ds)) rs s'
-    → (qs : List Reply) × (r : Reply) × (ts : List Reply) × (t : State) × (t' : State) × (rs ≡ qs ++ (r ∷ ts)) × Run Steps s cs qs t × Steps t c r t' × Run Steps t' ds ts s'
-cut [] c ds (then {s = s} {s₁ = s₁} {r = r} {rs = rs} x xs) = ([], r, rs, s, s₁, refl, start, x, xs)
-cut (d ∷ cs) c ds (then {r = q} x xs) =
-    let (qs, r, ts, t, t', e, run, y, rest) = cut cs c ds xs in
+-- Each event of a run is a step from a run: the one that the events before it are.
+pub cut : {s s' : State} (us : List Event) (v : Event) (ws : List Event) {rs : List Reply} → Run Goes s (us ++ (v ∷ ws)) rs s'
+    → (qs : List Reply) × (r : Reply) × (ts : List Reply) × (t : State) × (t' : State) × (rs ≡ qs ++ (r ∷ ts)) × Run Goes s us qs t × Goes t v r t' × Run Goes t' ws ts s'
+cut [] v ws (then {s = s} {s₁ = s₁} {r = r} {rs = rs} x xs) = ([], r, rs, s, s₁, refl, start, x, xs)
+cut (u ∷ us) v ws (then {r = q} x xs) =
+    let (qs, r, ts, t, t', e, run, y, rest) = cut us v ws xs in
     (q ∷ qs, r, ts, t, t', ap (λ (l : List Reply). q ∷ l) e, then x run, y, rest)
 
-bytes-cut : (cs : List Call) (c : Call) (ds : List Call) → AllBytes (cs ++ (c ∷ ds)) → AllBytes cs × Bytes (c .input)
+bytes-cut : (us : List Event) (v : Event) (ws : List Event) → AllBytes (us ++ (v ∷ ws)) → AllBytes us × InBytes v
 unfolding AllBytes
-bytes-cut [] c ds b = (tt, b .0)
-bytes-cut (d ∷ cs) c ds b = let (x, y) = bytes-cut cs c ds (b .1) in ((b .0, x), y)
+bytes-cut [] v ws b = (tt, b .0)
+bytes-cut (u ∷ us) v ws b = let (x, y) = bytes-cut us v ws (b .1) in ((b .0, x), y)
 
--- What is said of the calls before a call, so that each field of `Exact` speaks of every call inside a history.
-pub each-call : {e : Edition} → Marked e → {table : List Site} (cs : List Call) (c : Call) (ds : List Call) {rs : List Reply} {s : State}
-    → History e table (cs ++ (c ∷ ds)) rs s → AllBytes (cs ++ (c ∷ ds))
-    → (qs : List Reply) × (r : Reply) × (ts : List Reply) × (t : State) × (t' : State) × (rs ≡ qs ++ (r ∷ ts)) × Exact e table cs qs t × Bytes (c .input) × Steps t c r t' × Run Steps t' ds ts s
-each-call m cs c ds h bytes =
-    let (qs, r, ts, t, t', e, run, x, rest) = cut cs c ds h in
-    let (before, here) = bytes-cut cs c ds bytes in
+-- What is said of the events before an event, so that each field of `Exact` speaks of every call and of the step to edition 2 inside a history.
+pub each-event : {e : Edition} → Marked e → {table : List Site} (us : List Event) (v : Event) (ws : List Event) {rs : List Reply} {s : State}
+    → History e table (us ++ (v ∷ ws)) rs s → AllBytes (us ++ (v ∷ ws))
+    → (qs : List Reply) × (r : Reply) × (ts : List Reply) × (t : State) × (t' : State) × (rs ≡ qs ++ (r ∷ ts)) × Exact e table us qs t × InBytes v × Goes t v r t' × Run Goes t' ws ts s
+each-event m us v ws h bytes =
+    let (qs, r, ts, t, t', e, run, x, rest) = cut us v ws h in
+    let (before, here) = bytes-cut us v ws bytes in
     (qs, r, ts, t, t', e, exact m run before, here, x, rest)
 
 -- ---- two stores that hold the same list
 
 -- where a question is answered a plan is held, and its groups are a decomposition of the list
-decomposed : {e : Edition} {table : List Site} {calls : List Call} {replies : List Reply} {s : State} → Exact e table calls replies s
+decomposed : {e : Edition} {table : List Site} {events : List Event} {replies : List Reply} {s : State} → Exact e table events replies s
     → (c : Call) (r : Reply) (s' : State) (q : Request) → c .request ≡ q → Question q → Steps s c r s' → {a : Told} → r .answer ≡ a → Answered a
     → (gs : List ℕ) × Decomposition (network (modelOf s .list)) gs
-decomposed {e} {calls = calls} {replies = replies} {s = s} x c r s' q k h y a g =
-    let (bytes, l) = some-passed (lastPassed none calls replies) (x .wanting c r s' (subst Question (sym k) h) y) a g in
-    (planOf e (count (modelOf s)) bytes .groups, x .plan-true bytes l .groups)
+decomposed {e} {table} {events} {replies} {s} x c r s' q k h y a g =
+    let (p, l) = some-passed (trace e table events replies .proposal) (x .wanting c r s' (subst Question (sym k) h) y) a g in
+    (proposedPlan (count (modelOf s)) p .groups, x .plan-true p l .groups)
 
 -- Two stores that hold the same list, of whatever histories: each W, q, w × q, difference and set of depots that both answer is the same.
-pub same-figures : {e₁ e₂ : Edition} {t₁ t₂ : List Site} {cs₁ cs₂ : List Call} {rs₁ rs₂ : List Reply} {s₁ s₂ : State}
-    → Exact e₁ t₁ cs₁ rs₁ s₁ → Exact e₂ t₂ cs₂ rs₂ s₂ → modelOf s₁ .list ≡ modelOf s₂ .list → SameFigures s₁ s₂
+pub same-figures : {e₁ e₂ : Edition} {t₁ t₂ : List Site} {vs₁ vs₂ : List Event} {rs₁ rs₂ : List Reply} {s₁ s₂ : State}
+    → Exact e₁ t₁ vs₁ rs₁ s₁ → Exact e₂ t₂ vs₂ rs₂ s₂ → modelOf s₁ .list ≡ modelOf s₂ .list → SameFigures s₁ s₂
 same-figures {s₁ = s₁} {s₂ = s₂} x y l =
     record {
       site = λ c₁ c₂ i r₁ r₂ s₁' s₂' y₁ w₁ y₂ w₂ k₁ k₂ x₁ x₂ a₁ a₂.

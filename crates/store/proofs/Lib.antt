@@ -5,6 +5,8 @@ pub mod OneModel
 pub mod History
 pub mod Examples
 pub mod LastPassed
+pub mod Migrate
+pub mod SameAnswers
 pub mod Widths
 pub mod Writers
 pub mod Settled

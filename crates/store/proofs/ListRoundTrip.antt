@@ -21,15 +21,16 @@ use Rattle.held_state.specs.Held.{State, listOf, corrupt}
 use Rattle.held_state.proofs.Intact.{neither, listing, Intact, intact→, sized}
 use Rattle.store.specs.declared.Request.{Request}
 use Rattle.store.specs.declared.Request.the-variants.{Load, ListWritten}
-use Rattle.store.specs.Calls.{Call, Reply, refused, done, wrote}
+use Rattle.store.specs.Calls.{Call, Event, Reply, refused, done, wrote}
 use Rattle.store.specs.Model.{count}
 use Rattle.store.specs.State.{Done, modelOf, triesZero, listOut, Output}
-use Rattle.store.specs.Trace.{Steps, History, AllBytes, ListRoundTrip}
-use Rattle.store.specs.Widths.{AllNamed, PlacesFit}
+use Rattle.store.specs.Trace.{Steps, History, AllBytes, begun, trace, ListRoundTrip}
+use Rattle.store.specs.Widths.{AllNamed, PlacesFit, SitesFit}
 use Rattle.store.proofs.Steps.{row-zero}
 use Rattle.store.proofs.Settled.{load-read, load-done}
 use Rattle.store.proofs.Widths.{run-sites}
 use Rattle.store.proofs.Writers.{every-writer}
+use Rattle.store.proofs.History.{history-marked}
 
 -- ---- a list written out
 
@@ -42,7 +43,7 @@ module _ (s : State) (c : Call) (r : Reply) (s' : State) (n : ℕ) (k : c .reque
       let is : out ≡ listOut s = subst (λ (q : Request). Output s q out) k is-output in
       (l ∙ ap length is, ap (λ (r : Reply). r .buffer) (replied ∙ put) ∙ ap (λ (z : List ℕ). onto z (c .buffer)) is)
 
-  list-front : take n (r .buffer) ≡ listOut s
+  pub list-front : take n (r .buffer) ≡ listOut s
   list-front =
       ap₂ (λ (n : ℕ) (z : List ℕ). take n z) (list-wrote .0) (list-wrote .1) ∙ take-append-seam (listOut s) (drop (length (listOut s)) (c .buffer))
 
@@ -61,7 +62,7 @@ module _ (s : State) (c : Call) (r : Reply) (s' : State) (n : ℕ) (k : c .reque
 -- ---- it is read back, where the litres held have their width
 
 module _ (s : State) (i : Intact s) (fit : PlacesFit (s .store .count) s) where
-  held-good : All (Good (s .edition)) (listOf s .sites)
+  pub held-good : All (Good (s .edition)) (listOf s .sites)
   held-good = all-from (Good (s .edition)) noSite (listOf s .sites) good
     where
       good : (j : ℕ) → j < length (listOf s .sites) → Good (s .edition) (siteAt (listOf s) j)
@@ -119,9 +120,12 @@ list-round-trip s m fit =
           (w .0 ∙ ap length out, w .1 ∙ ap (λ (z : List ℕ). onto z (c' .buffer)) out);
     }
 
--- What a history writes out: the litres of its changes and added sites have that width, so those held have.
-pub history-list : {e : Edition} → Marked e → {table : List Site} {calls : List Call} {replies : List Reply} {s : State} → History e table calls replies s
-    → AllBytes calls → AllNamed (256 ^ e .litres) calls → ListRoundTrip s
-history-list m {s = s} h bytes named =
-    let fit = run-sites h (record { edition = refl; litres = λ i l. absurd (let z : ⊥ = omega arith in z) }) bytes named in
-    list-round-trip s (subst Marked (sym (fit .edition)) m) (fit .litres)
+-- What a history writes out: the litres of its changes and added sites have the width of the store's edition then, so those held have.
+pub history-fits : {e : Edition} {table : List Site} {events : List Event} {replies : List Reply} {s : State} → History e table events replies s
+    → AllBytes events → AllNamed (begun e table) events replies → SitesFit (trace e table events replies .edition) s
+history-fits {e} {table} h bytes named =
+    run-sites h (begun e table) (record { edition = refl; litres = λ i l. absurd (let z : ⊥ = omega arith in z) }) bytes named
+
+pub history-list : {e : Edition} → Marked e → {table : List Site} {events : List Event} {replies : List Reply} {s : State} → History e table events replies s
+    → AllBytes events → AllNamed (begun e table) events replies → ListRoundTrip s
+history-list m {s = s} h bytes named = list-round-trip s (history-marked m h bytes) (history-fits h bytes named .litres)

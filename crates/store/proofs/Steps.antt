@@ -30,6 +30,7 @@ use Rattle.store.specs.declared.Request.the-variants.{Load, Change, Add,
 use Rattle.store.specs.Calls.{Call, Reply, same, putOut, refused, done, shared, loaded, differ, reached}
 use Rattle.judge.specs.Check.{True}
 use Rattle.store.specs.Model.{Model, Says, listed, planned, missing, held, count, rowsOf, modelRows, proposalRows, withLitres, grantOf, settled, turned, turn}
+use Rattle.held_state.specs.declared.Store.{Store}
 use Rattle.held_state.specs.Held.{State, listOf, planHeld, badPlan, corrupt, litresAt, sizeAt}
 use Rattle.store.specs.State.{Done, modelOf, triesZero, bare, fresh, holding, next, stays, effectOf, rowFor, refusal, settle, step}
 use Rattle.store.specs.Trace.{Steps, Tidy}
@@ -86,13 +87,56 @@ module _ (e : Edition) (n : ℕ) (table : List Site) where
 pub fresh-holds : (e : Edition) (table : List Site) → Holds (fresh e table)
 fresh-holds e table = bare-holds e 0 table zero-le zero-le (λ i m. absurd (let z : ⊥ = omega arith in z))
 
+-- ---- a state that holds a plan
+
+module _ (e : Edition) (store : Store) (p : Plan) (table : List Site) where
+  abbrev with : State
+  with = record { edition = e; store = holding store p; table = table }
+
+  module _ (each : length (p .shares) ≡ store .count) where
+    -- the plan held is that one
+    pub holding-plan : planHeld with ≡ p
+    holding-plan =
+        ap₂ (λ (g x : List ℕ). record { groups = g; shares = x }) (take-append-seam (p .groups) (replicate (64 - length (p .groups)) 0))
+        (take-at (p .shares) (replicate (512 - length (p .shares)) 0) (store .count) each)
+
+    pub holding-intact : store .count ≤ 512 → store .count ≤ length table → Good (listOf with) → length (p .groups) ≤ 64 → (T (badPlan (listOf with) p) → ⊥) → corrupt with ≡ false
+    holding-intact few room good groups clear =
+        →intact with
+        (record {
+          few = few;
+          room = room;
+          good = good;
+          groups = λ u. groups;
+          plan = λ u. subst (λ (q : Plan). T (badPlan (listOf with) q) → ⊥) (sym holding-plan) clear;
+        })
+
+    -- places behind it are zero
+    pub holding-tidy : Tidy with
+    holding-tidy =
+        record {
+          none = λ u. absurd (true≢false u);
+          behind = λ u. (
+            drop-append-seam (p .groups) (replicate (64 - length (p .groups)) 0),
+            drop-at (p .shares) (replicate (512 - length (p .shares)) 0) (store .count) each ∙ ap (λ (k : ℕ). replicate (512 - k) 0) each,
+          );
+        }
+
+    pub holding-holds : corrupt with ≡ false → TruePlan (network (listOf with)) (p .groups) (p .shares) → Holds with
+    holding-holds sound true-plan =
+        record {
+          intact = sound;
+          plan = λ u. subst (λ (q : Plan). TruePlan (network (listOf with)) (q .groups) (q .shares)) (sym holding-plan) true-plan;
+          tidy = holding-tidy;
+        }
+
 -- ---- the plan held, where there is one
 
 not-missing : (x : Bool) (p : Plan) → (T (missing (cond x (some p) none)) → ⊥) → x ≡ true
 not-missing true p h = refl
 not-missing false p h = absurd (h tt)
 
-held-is : (x : Bool) (p : Plan) → x ≡ true → held (cond x (some p) none) ≡ p
+pub held-is : (x : Bool) (p : Plan) → x ≡ true → held (cond x (some p) none) ≡ p
 held-is x p e = rw e refl
 
 -- ---- what the model says where no row refuses, and where one does
@@ -177,37 +221,14 @@ module _ (s : State) (h : Holds s) (input buffer : List ℕ) where
   accepted : (p : Plan) → True (s .edition) (listOf s) p input → (T (badPlan (listOf s) p) → ⊥)
       → Kept s (call Propose) (next s (holding (s .store) p) (s .table) (same (call Propose) done))
   accepted p t clear =
-      let after : State = record { edition = s .edition; store = holding (s .store) p; table = s .table } in
       let each : length (p .shares) ≡ n = t .layout .each ∙ size in
-      let plan : planHeld after ≡ p =
-      ap₂ (λ (g x : List ℕ). record { groups = g; shares = x }) (take-append-seam (p .groups) (replicate (64 - length (p .groups)) 0))
-      (take-at (p .shares) (replicate (512 - length (p .shares)) 0) n each) in
       let form = formed (s .edition) (listOf s) p input (t .layout) in
       record {
-        says = inl (p, t, refl, ap (λ (q : Plan). planned b q) plan);
+        says = inl (p, t, refl, ap (λ (q : Plan). planned b q) (holding-plan (s .edition) (s .store) p (s .table) each));
         holds =
-            record {
-              intact =
-                  →intact after
-                  (record {
-                    few = parts .few;
-                    room = parts .room;
-                    good = parts .good;
-                    groups = λ u. t .layout .few;
-                    plan = λ u. subst (λ (q : Plan). T (badPlan (listOf s) q) → ⊥) (sym plan) clear;
-                  });
-              plan = λ u.
-                  subst (λ (q : Plan). TruePlan (network (listOf s)) (q .groups) (q .shares)) (sym plan)
-                  (record { form = form; groups = t .groups; shares = t .shares });
-              tidy =
-                  record {
-                    none = λ u. absurd (true≢false u);
-                    behind = λ u. (
-                      drop-append-seam (p .groups) (replicate (64 - length (p .groups)) 0),
-                      drop-at (p .shares) (replicate (512 - length (p .shares)) 0) n each ∙ ap (λ (k : ℕ). replicate (512 - k) 0) each,
-                    );
-                  };
-            };
+            holding-holds (s .edition) (s .store) p (s .table) each
+            (holding-intact (s .edition) (s .store) p (s .table) each (parts .few) (parts .room) (parts .good) (t .layout .few) clear)
+            (record { form = form; groups = t .groups; shares = t .shares });
         edition = refl;
         places = refl;
       }

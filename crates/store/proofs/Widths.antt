@@ -1,26 +1,31 @@
 -- A step keeps the widths of an edition: figures read are fields of that width, and those filled in are zero. Assumes nothing.
-use mathlib.Core.Path.{sym, subst}
+use mathlib.Core.Path.{_≡_, refl, sym, _∙_, subst}
+use mathlib.Core.Bool.{Bool, true, false, cond}
 use mathlib.Core.List.{List, [], _∷_, _++_, map, append-nil}
-use mathlib.Core.Option.{Option, none, some}
+use mathlib.Core.Option.{Option, none, some, Option·some-ne-none}
 use Prim.Native.Nat.{ℕ, zero, suc, _+_, _-_, _*_, _<_, _^_}
 use native.Mathlib.Omega.{arith}
 use lib.Dec.{lit<}
-use lib.ListN.{length, getD, drop, set, replicate, List·getD-append}
+use lib.ListN.{length, getD, take, drop, set, replicate, List·getD-append}
+use lib.Seq.{getD-take}
 use Rattle.density.specs.declared.Site.{Site}
 use Rattle.density.specs.Network.{noSite, siteAt}
 use Rattle.records.specs.declared.Edition.{Edition}
 use Rattle.records.specs.Bytes.{Bytes}
 use Rattle.records.specs.Record.{records}
-use Rattle.records.specs.Format.{siteSize, siteCount, siteOf, sitesOf, shareSize, groupCount, bodyOf}
+use Rattle.density.specs.Rows.{firstRow}
+use Rattle.records.specs.Write.{All}
+use Rattle.records.specs.Format.{edition1, siteSize, siteCount, siteOf, sitesOf, shareSize, groupCount, bodyOf}
 use Rattle.records.proofs.Bytes.{bytes-take, bytes-drop, field-small}
 use Rattle.store.specs.declared.Request.{Request}
 use Rattle.store.specs.declared.Request.the-variants.{Load, Change, Add, Propose, Share, Depot, Difference, Written, AtLeast, ListWritten}
-use Rattle.store.specs.Calls.{Call, Reply}
-use Rattle.store.specs.Model.{withLitres}
-use Rattle.store.specs.Widths.{Named, AllNamed, Fits, SitesFit}
-use Rattle.held_state.specs.Held.{State, listOf}
-use Rattle.store.specs.State.{Done, refusal, effectOf, settle, step}
-use Rattle.store.specs.Trace.{Run, start, then, Steps, AllBytes}
+use Rattle.store.specs.Calls.{Call, Event, called, migrate, Reply}
+use Rattle.store.specs.Model.{withLitres, Possible}
+use Rattle.store.specs.Widths.{Named, NamedIn, AllNamed, Fits, SitesFit}
+use Rattle.held_state.specs.Held.{State, listOf, planHeld, corrupt}
+use Rattle.held_state.proofs.Intact.{Intact, sized, intact→}
+use Rattle.store.specs.State.{Done, bare, holding, refusal, effectOf, settle, step, migrateRow, migrateStep, stepOn}
+use Rattle.store.specs.Trace.{Run, start, then, Goes, InBytes, AllBytes, Traced, tracedOn, traced}
 
 -- ---- a property of what stands at a place
 
@@ -167,10 +172,52 @@ module _ {e : Edition} (s : State) (h : SitesFit e s) (c : Call) (bytes : Bytes 
       settle-sites (refusal s c) (effectOf s c (c .request))
       (effect-sites (c .request) (subst (λ (e : Edition). Named (256 ^ e .litres) (c .request)) (sym (h .edition)) n))
 
+-- ---- the step to edition 2: what has edition 1's width has edition 2's
+
+not-corrupt : (x : Bool) (o : Option ℕ) → cond x (some 0) o ≡ none → x ≡ false
+not-corrupt true o e = absurd (Option·some-ne-none 0 e)
+not-corrupt false o e = refl
+
+module _ (s : State) (h : SitesFit edition1 s) (table : List Site) where
+  -- the sites held are the first of the new table
+  over-litres : Intact s → (i : ℕ) → i < s .store .count → getD (listOf s .sites ++ drop (s .store .count) table) i noSite .litres < 256 ^ 4
+  over-litres k i l =
+      let old : getD (s .table) i noSite .litres < 256 ^ 2 = subst (λ (e : Edition). getD (s .table) i noSite .litres < 256 ^ e .litres) (h .edition) (h .litres i l) in
+      let below : i < length (listOf s .sites) = omega (arith, sized s (k .room)) in
+      rw (List·getD-append (listOf s .sites) (drop (s .store .count) table) noSite i below, getD-take (s .store .count) (s .table) i noSite l) (omega arith)
+
+  carried-count : (x : Bool) → cond x (holding (s .store) (planHeld s)) (bare (s .store .count)) .count ≡ s .store .count
+  carried-count true = refl
+  carried-count false = refl
+
+  migrate-sites : (t : Traced) → t .edition ≡ edition1 → (o : Option ℕ) → migrateRow s table ≡ o
+      → SitesFit (tracedOn (migrate table) (migrateStep o s table .reply .answer) t .edition) (migrateStep o s table .after)
+  unfolding firstRow
+  migrate-sites t e (some n) k = subst (λ (e : Edition). SitesFit e s) (sym e) h
+  migrate-sites t e none k =
+      let sound = intact→ s (not-corrupt (corrupt s) _ k) in
+      record { edition = refl; litres = λ i l. over-litres sound i (subst (λ (n : ℕ). i < n) (carried-count (s .store .held)) l) }
+
+-- after an event whose litres have the width of the edition
+event-sites : (t : Traced) (s : State) → SitesFit (t .edition) s → (v : Event) → Possible (s .edition) v → InBytes v → NamedIn (t .edition) v
+    → SitesFit (tracedOn v (stepOn s v .reply .answer) t .edition) (stepOn s v .after)
+event-sites t s h (called c) p b n = step-sites s h c b n
+event-sites t s h (migrate table) p b n =
+    let e : t .edition ≡ edition1 = sym (h .edition) ∙ p in
+    migrate-sites s (subst (λ (e : Edition). SitesFit e s) e h) table t e (migrateRow s table) refl
+
 -- along every run whose litres have that width
-pub run-sites : {e : Edition} {s s' : State} {calls : List Call} {replies : List Reply} → Run Steps s calls replies s' → SitesFit e s → AllBytes calls
-    → AllNamed (256 ^ e .litres) calls → SitesFit e s'
-unfolding AllBytes
-run-sites start h b n = h
-run-sites {e} (then {s = s} {c = c} x xs) h b n =
-    run-sites xs (subst (λ (d : Done). SitesFit e (d .after)) (sym x) (step-sites s h c (b .0) (n .0))) (b .1) (n .1)
+pub run-sites : {s s' : State} {events : List Event} {replies : List Reply} → Run Goes s events replies s' → (t : Traced) → SitesFit (t .edition) s → AllBytes events
+    → AllNamed t events replies → SitesFit (traced t events replies .edition) s'
+unfolding AllBytes AllNamed traced
+run-sites start t h b n = h
+run-sites (then {s = s} {v = v} {r = r} x xs) t h b n =
+    run-sites xs (tracedOn v (r .answer) t)
+    (subst (λ (d : Done). SitesFit (tracedOn v (d .reply .answer) t .edition) (d .after)) (sym (x .1)) (event-sites t s h v (x .0) (b .0) (n .0))) (b .1) (n .1)
+
+-- calls alone name litres of one width
+pub calls-named : (t : Traced) (cs : List Call) (replies : List Reply) → All (λ (c : Call). Named (256 ^ t .edition .litres) (c .request)) cs → AllNamed t (map called cs) replies
+unfolding AllNamed
+calls-named t [] rs h = tt
+calls-named t (c ∷ cs) [] h = tt
+calls-named t (c ∷ cs) (r ∷ rs) h = (h .0, calls-named (tracedOn (called c) (r .answer) t) cs rs (h .1))

@@ -1,8 +1,9 @@
--- Document 01, "Entry points": what a desk call is given, and what it answers.
-use mathlib.Core.List.{List}
+-- Document 01, "Entry points": what a desk call is given, and what it answers; document 02, e: what a history is made of.
+use mathlib.Core.List.{List, []}
 use Prim.Native.Nat.{ℕ}
 use lib.IntN.{ℤ}
 use lib.ListN.{length}
+use Rattle.density.specs.declared.Site.{Site}
 use Rattle.records.specs.Write.{onto}
 use Rattle.store.specs.declared.Request.{Request}
 use Rattle.store.specs.declared.Answer.{Answer}
@@ -47,3 +48,13 @@ same c a = record { answer = a; buffer = c .buffer }
 -- bytes put to the front of the buffer; document 02, b: "every writer answers the length it wrote"
 abbrev pub putOut : Call → List ℕ → Reply
 putOut c bytes = record { answer = wrote (length bytes); buffer = onto bytes (c .buffer) }
+
+-- an answer without a buffer
+abbrev pub unbuffered : Told → Reply
+unbuffered a = record { answer = a; buffer = [] }
+
+-- What a history is made of: a call, or document 02, e, the step of a store of edition 1 to edition 2, with the content of its new table ("A desk kept by the old widths is
+-- turned into one by the new").
+pub data Event : Type 0 where
+  called : Call → Event
+  migrate : List Site → Event

@@ -1,5 +1,5 @@
 -- Document 01: histories of T, of two own sites of 4 and of two sites of one pair on a table of two places, with their replies, the rows of every call
--- among them. Document 02, a: a history of thresholds; b: one of lists written out; c: one of edition 2.
+-- among them. Document 02, a: a history of thresholds; b: one of lists written out; c: one of edition 2; e: one that goes over to edition 2.
 use mathlib.Core.List.{List, [], _∷_, _++_, map}
 use mathlib.Core.Option.{Option, none, some}
 use Prim.Native.Nat.{ℕ}
@@ -15,11 +15,15 @@ use Rattle.records.specs.Samples.{listT, planT, listBig, planBig}
 use Rattle.judge.specs.Refusals.{group, share}
 use Rattle.store.specs.declared.Request.{Request}
 use Rattle.store.specs.declared.Request.the-variants.{Load, Change, Add, Propose, Share, Depot, Difference, Written, AtLeast, ListWritten}
-use Rattle.store.specs.Calls.{Call, Reply, Told, refused, done, shared, loaded, differ, wrote, reached}
-use Rattle.store.specs.Model.{Model}
+use Rattle.store.specs.Calls.{Call, Event, called, migrate, Reply, Told, unbuffered, refused, done, shared, loaded, differ, wrote, reached}
+use Rattle.store.specs.Model.{Model, migratedModel}
 
 abbrev pub call : Request → List ℕ → List ℕ → Call
 call q i o = record { request = q; input = i; buffer = o }
+
+-- calls as the events of a history
+abbrev pub events : List Call → List Event
+events = map called
 
 abbrev pub reply : Told → List ℕ → Reply
 reply a o = record { answer = a; buffer = o }
@@ -285,6 +289,63 @@ plannedB = modelBy edition2 (sitesB .sites) (some (record { groups = 3 ∷ []; s
 
 abbrev pub addedB : Model
 addedB = modelBy edition2 (pair 0 1 70000 ∷ own 1 4294967295 ∷ []) none
+
+-- ---- T goes over to edition 2 with its plan: a new table without places has too few, one of three has them; figures are as before, what is written out is in edition 2, lists
+-- and plans of edition 1 are refused, and litres have 32 bits
+
+abbrev pub listE : List ℕ
+listE = 0x4C ∷ 0x32 ∷ 0x01 ∷ 0x00 ∷ 0x53 ∷ 0x32 ∷ 0x00 ∷ 0x01 ∷ 0x0A ∷ 0x00 ∷ 0x00 ∷ 0x00 ∷ []
+
+abbrev pub planE : List ℕ
+planE = 0x50 ∷ 0x32 ∷ 0x01 ∷ 0x01 ∷ 0x00 ∷ group 0x03 (0x53 ∷ 0x33 ∷ 0x0A ∷ 0x00 ∷ 0x00 ∷ 0x00 ∷ 0x00 ∷ 0x00 ∷ 0x00 ∷ 0x00 ∷ [])
+
+abbrev pub beforeE : List Call
+beforeE = call Load listT [] ∷ call Propose planT [] ∷ []
+
+abbrev pub afterE : List Call
+afterE =
+    call (Share 0) [] []
+    ∷ call (Depot 0) [] []
+    ∷ call Written [] (replicate 26 7)
+    ∷ call Written [] (replicate 24 7)
+    ∷ call ListWritten [] (replicate 13 7)
+    ∷ call ListWritten [] (replicate 11 7)
+    ∷ call Propose planT []
+    ∷ call Load listT []
+    ∷ call (Add 1 1 65536) [] []
+    ∷ call (Add 1 1 1) [] []
+    ∷ call (Add 1 1 1) [] []
+    ∷ []
+
+-- z stands at each place of the new tables
+abbrev pub eventsE : Site → List Event
+eventsE z = events beforeE ++ (migrate [] ∷ migrate (replicate 3 z) ∷ events afterE)
+
+abbrev pub repliesE : List Reply
+repliesE =
+    reply done []
+    ∷ reply done []
+    ∷ unbuffered (refused 2)
+    ∷ unbuffered done
+    ∷ reply (shared 10 20) []
+    ∷ reply (loaded 10 2) []
+    ∷ reply (wrote 25) (planE ++ (7 ∷ []))
+    ∷ reply (refused 20) (replicate 24 7)
+    ∷ reply (wrote 12) (listE ++ (7 ∷ []))
+    ∷ reply (refused 20) (replicate 11 7)
+    ∷ reply (refused 7) []
+    ∷ reply (refused 1) []
+    ∷ reply done []
+    ∷ reply done []
+    ∷ reply (refused 2) []
+    ∷ []
+
+-- the model of T with its plan, gone over to three places; and with sites more
+abbrev pub overT : Model
+overT = migratedModel plannedT 3
+
+abbrev pub addedE : List Site → Model
+addedE more = record { edition = edition2; places = 3; list = record { sites = pair 0 1 10 ∷ more }; plan = none }
 
 -- the answer to the i-th call, and its buffer
 abbrev pub nth : ℕ → List Reply → Told

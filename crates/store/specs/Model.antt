@@ -1,4 +1,4 @@
--- Document 01, "The plain book": the model of the desk.
+-- Document 01, "The plain book": the model of the desk; document 02, e: its step to edition 2.
 use mathlib.Core.Path.{_≡_}
 use mathlib.Core.Logic.{_⊎_}
 use mathlib.Core.Bool.{Bool, true, false, not, _||_}
@@ -14,12 +14,12 @@ use Rattle.density.specs.Rows.{Row, row, firstRow, planRows}
 use Rattle.density.specs.Figures.{depotLitres, depotSize, siteWhole, difference, divisor, atLeast}
 use Rattle.records.specs.declared.Edition.{Edition}
 use Rattle.records.specs.Values.{Plan}
-use Rattle.records.specs.Format.{listRows, sitesOf, layoutRows, planOf}
+use Rattle.records.specs.Format.{edition1, edition2, listRows, sitesOf, layoutRows, planOf}
 use Rattle.records.specs.Write.{listBytes, planBytes, isShort}
 use Rattle.judge.specs.Check.{True}
 use Rattle.store.specs.declared.Request.{Request}
 use Rattle.store.specs.declared.Request.the-variants.{Load, Change, Add, Propose, Share, Depot, Difference, Written, AtLeast, ListWritten}
-use Rattle.store.specs.Calls.{Call, Reply, same, putOut, refused, done, shared, loaded, differ, reached}
+use Rattle.store.specs.Calls.{Call, Event, called, migrate, Reply, same, putOut, unbuffered, refused, done, shared, loaded, differ, reached}
 
 -- "It has a list, at first without sites, and a plan, at first none"; it "is fed the number of table places".
 pub record Model : Type 0 where
@@ -140,3 +140,30 @@ SaysOf ListWritten = Turns
 
 abbrev pub Says : Model → Call → Reply → Model → Type 0
 Says b c r b' = SaysOf (c .request) b c r b'
+
+-- ---- document 02, e: the step to edition 2
+
+-- "where it succeeds, the book keeps its list and plan, now in edition 2, from there on with the new table and its places"
+abbrev pub migratedModel : Model → ℕ → Model
+migratedModel b places = record { edition = edition2; places = places; list = b .list; plan = b .plan }
+
+-- "a new table with too few places gives row 2"; of the new table the model "is fed the number of table places"
+abbrev pub migrateRows : Model → ℕ → List Row
+migrateRows b places = row 2 (ltb places (count b)) ∷ []
+
+abbrev pub migrateTurn : Option ℕ → Model → ℕ → Turn
+migrateTurn (some n) b places = turned b (unbuffered (refused n))
+migrateTurn none b places = turned (migratedModel b places) (unbuffered done)
+
+-- "A history may contain this step wherever its desk is of edition 1"; a call may come anywhere
+abbrev pub Possible : Edition → Event → Type 0
+Possible e (called c) = Unit {0}
+Possible e (migrate table) = e ≡ edition1
+
+-- what the model says to an event, and the model after it
+abbrev pub SaysTo : Event → Model → Reply → Model → Type 0
+SaysTo (called c) b r b' = Says b c r b'
+SaysTo (migrate table) b r b' = turned b' r ≡ migrateTurn (firstRow (migrateRows b (length table))) b (length table)
+
+abbrev pub Follows : Model → Event → Reply → Model → Type 0
+Follows b v r b' = Possible (b .edition) v × SaysTo v b r b'

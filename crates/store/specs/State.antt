@@ -1,7 +1,7 @@
--- Document 01, "Entry points", the desk: what each call does at any desk and table.
+-- Document 01, "Entry points", the desk: what each call does at any desk and table; document 02, e: what the step to edition 2 does.
 use mathlib.Core.Path.{_≡_}
 use mathlib.Core.Bool.{Bool, true, false, cond, _&&_}
-use mathlib.Core.List.{List, _++_}
+use mathlib.Core.List.{List, _∷_, _++_}
 use mathlib.Core.Option.{Option, none, some}
 use Prim.Native.Nat.{ℕ, _+_, _*_}
 use lib.ListN.{length, getD, drop, set, replicate}
@@ -9,19 +9,19 @@ use Rattle.sets.specs.Set.{setOf}
 use Rattle.density.specs.declared.Site.{Site}
 use Rattle.density.specs.Network.{network, siteAt}
 use Rattle.density.specs.Plan.{whole}
-use Rattle.density.specs.Rows.{firstRow, planRows}
+use Rattle.density.specs.Rows.{row, firstRow, planRows}
 use Rattle.density.specs.Figures.{differenceOf, depotsRead}
 use Rattle.records.specs.declared.Edition.{Edition}
 use Rattle.records.specs.Values.{Plan}
 use Rattle.records.specs.Answer.{filled}
-use Rattle.records.specs.Format.{sitesOf, layoutRows, planOf}
+use Rattle.records.specs.Format.{edition2, sitesOf, layoutRows, planOf}
 use Rattle.records.specs.Write.{listBytes, planBytes}
 use Rattle.held_state.specs.declared.Store.{Store}
-use Rattle.held_state.specs.Held.{State, listOf, planHeld, corrupt, litresAt, sizeAt}
+use Rattle.held_state.specs.Held.{State, on, listOf, planHeld, corrupt, litresAt, sizeAt}
 use Rattle.store.specs.declared.Request.{Request}
 use Rattle.store.specs.declared.Request.the-variants.{Load, Change, Add, Propose, Share, Depot, Difference, Written, AtLeast, ListWritten}
-use Rattle.store.specs.Calls.{Call, Reply, same, putOut, refused, done, shared, loaded, differ, reached}
-use Rattle.store.specs.Model.{Model, count, rowsOf, withLitres}
+use Rattle.store.specs.Calls.{Call, Event, called, migrate, Reply, same, putOut, unbuffered, refused, done, shared, loaded, differ, reached}
+use Rattle.store.specs.Model.{Model, count, rowsOf, withLitres, migrateRows}
 
 -- the list held, and the plan held or the lack of one
 abbrev pub modelOf : State → Model
@@ -138,3 +138,27 @@ step s c = settle (refusal s c) s c (effectOf s c (c .request))
 -- row n refuses the call: so it is answered, and nothing changes
 abbrev pub RefusedBy : State → Call → ℕ → Type 0
 RefusedBy s c n = step s c ≡ stays s (same c (refused n))
+
+-- ---- document 02, e: the step to edition 2
+
+-- "Sites, the held plan and the lack of one carry over, group and share places beyond them are zero"
+abbrev pub carried : State → Store
+carried s = cond (s .store .held) (holding (s .store) (planHeld s)) (bare (s .store .count))
+
+-- the store of edition 2 over the new table; document 01: "Table places beyond the sites keep their content"
+abbrev pub migrated : State → List Site → State
+migrated s table = on edition2 (carried s) (listOf s .sites ++ drop (s .store .count) table)
+
+-- "The old desk answers to row 0 first, a new table with too few places gives row 2"
+abbrev pub migrateRow : State → List Site → Option ℕ
+migrateRow s table = firstRow (row 0 (corrupt s) ∷ migrateRows (modelOf s) (length table))
+
+-- the state after the step; where it is refused the history goes on with the old store and table
+abbrev pub migrateStep : Option ℕ → State → List Site → Done
+migrateStep (some n) s table = stays s (unbuffered (refused n))
+migrateStep none s table = record { after = migrated s table; reply = unbuffered done }
+
+-- what an event does
+abbrev pub stepOn : State → Event → Done
+stepOn s (called c) = step s c
+stepOn s (migrate table) = migrateStep (migrateRow s table) s table

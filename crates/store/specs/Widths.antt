@@ -1,15 +1,15 @@
 -- Document 01, "Entry points", the desk: widths of figures. "Litres in a change or an added site are a 16-bit figure"; document 02, c: of edition 2 "its litres come as a 32-bit figure".
 use mathlib.Core.Path.{_≡_}
-use mathlib.Core.List.{List}
+use mathlib.Core.List.{List, [], _∷_}
 use Prim.Native.Nat.{ℕ, _<_, _≤_, _^_}
 use lib.ListN.{getD}
 use Rattle.density.specs.Network.{noSite}
 use Rattle.records.specs.declared.Edition.{Edition}
-use Rattle.records.specs.Write.{All}
 use Rattle.held_state.specs.Held.{State}
 use Rattle.store.specs.declared.Request.{Request}
 use Rattle.store.specs.declared.Request.the-variants.{Load, Change, Add, Propose, Share, Depot, Difference, Written, AtLeast, ListWritten}
-use Rattle.store.specs.Calls.{Call}
+use Rattle.store.specs.Calls.{Event, called, migrate, Reply}
+use Rattle.store.specs.Trace.{Traced, tracedOn}
 
 -- the litres that a request puts into the table are below a bound; a threshold is put nowhere
 abbrev pub Named : ℕ → Request → Type 0
@@ -24,9 +24,16 @@ Named b Written = Unit {0}
 Named b (AtLeast m) = Unit {0}
 Named b ListWritten = Unit {0}
 
--- the same of each of several calls
-abbrev pub AllNamed : ℕ → List Call → Type 0
-AllNamed b calls = All (λ (c : Call). Named b (c .request)) calls
+-- the litres that an event names have the width of the edition
+abbrev pub NamedIn : Edition → Event → Type 0
+NamedIn e (called c) = Named (256 ^ e .litres) (c .request)
+NamedIn e (migrate table) = Unit {0}
+
+-- the same of each of several events, whose replies tell the edition
+unfoldable pub AllNamed : Traced → List Event → List Reply → Type 0
+AllNamed t [] rs = Unit {0}
+AllNamed t (v ∷ vs) [] = Unit {0}
+AllNamed t (v ∷ vs) (r ∷ rs) = NamedIn (t .edition) v × AllNamed (tracedOn v (r .answer) t) vs rs
 
 -- litres of at most 32 bits and shares of at most 64, as a site and a plan by value have them
 abbrev pub Fitting : Edition → Type 0

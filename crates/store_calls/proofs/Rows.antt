@@ -1,8 +1,8 @@
--- The rows of a change and of another site, test by test. Assumes nothing.
+-- The rows of a change, of another site and of the step to edition 2, test by test. Assumes nothing.
 use mathlib.Core.Path.{_≡_, sym}
 use mathlib.Core.Bool.{true, false, _||_}
 use Prim.Native.Nat.{ℕ, _≤_, _<_}
-use borrow.Author.Tests.{le-leb, lt-leb, eq-eqb, ne-eqb}
+use borrow.Author.Tests.{lt-ltb, le-ltb, le-leb, lt-leb, eq-eqb, ne-eqb}
 use lib.Dec.{leb, ltb}
 use lib.ListN.{length}
 use Rattle.density.specs.declared.Site.{Site}
@@ -13,7 +13,7 @@ use Rattle.tables.specs.Verdict.{verdict}
 use Rattle.store.specs.declared.Request.{Request}
 use Rattle.store.specs.declared.Request.the-variants.{Change, Add}
 use Rattle.store.specs.Calls.{Call}
-use Rattle.store.specs.Model.{Model, rowsOf}
+use Rattle.store.specs.Model.{Model, rowsOf, migrateRows}
 
 module _ (b : Model) (c : Call) (count : ℕ) (n : length (b .list .sites) ≡ count) where
   abbrev rowIs : Verdict → Request → Type 0
@@ -54,3 +54,13 @@ module _ (b : Model) (c : Call) (count : ℕ) (n : length (b .list .sites) ≡ c
         pub add-passes : (x .litres ≡ 0 → ⊥) → rowIs Passes request
         unfolding firstRow
         add-passes z = sym (rw (n, m, t, u, ne-eqb (x .litres) 0 z))
+
+-- Document 02, e: "a new table with too few places gives row 2".
+module _ (b : Model) (count : ℕ) (n : length (b .list .sites) ≡ count) (places : ℕ) where
+  pub migrate-full : places < count → Refused 2 ≡ verdict (firstRow (migrateRows b places))
+  unfolding firstRow
+  migrate-full l = sym (rw (n, lt-ltb places count l))
+
+  pub migrate-passes : count ≤ places → Passes ≡ verdict (firstRow (migrateRows b places))
+  unfolding firstRow
+  migrate-passes l = sym (rw (n, le-ltb places count l))

@@ -1,16 +1,18 @@
--- The step of a state by what is decided of a proposal, a change and an added site. Assumes nothing.
+-- The step of a state by what is decided of a proposal, a change, an added site and the step to edition 2. Assumes nothing.
 use mathlib.Core.Path.{_≡_, refl, sym, ap, ap₂, _∙_}
 use mathlib.Core.Logic.{_⊎_, inl, inr, ⊎-elim}
-use mathlib.Core.Bool.{false}
+use mathlib.Core.Bool.{false, cond}
 use mathlib.Core.List.{List}
 use mathlib.Core.Option.{Option, none}
 use Prim.Native.Nat.{ℕ, _+_, _≤_, _<_}
 use native.Mathlib.Nat.{lt-of-not-le}
 use native.Mathlib.Omega.{arith}
+use borrow.Author.Tests.{ltb-false}
 use lib.Dec.{leb, le→leb}
 use lib.ListN.{length, getD, set, length-map}
 use lib.Seq.{getD-take}
 use Rattle.sets.proofs.Test.{fails}
+use Rattle.density.specs.declared.Site.{Site}
 use Rattle.density.specs.Network.{network, noSite, siteAt}
 use Rattle.density.specs.Rows.{Row, firstRow, planRows}
 use Rattle.records.specs.Values.{Plan}
@@ -26,9 +28,10 @@ use Rattle.judge.specs.Check.{judgedFor}
 use Rattle.held_state.specs.Held.{State, listOf, corrupt}
 use Rattle.held_state.proofs.Intact.{intact→, sized}
 use Rattle.store.specs.declared.Request.the-variants.{Change, Add, Propose}
-use Rattle.store.specs.Calls.{Call, same, refused as row, done}
-use Rattle.store.specs.Model.{rowsOf, withLitres}
-use Rattle.store.specs.State.{modelOf, planRow, firstOf, bare, holding, next, step, RefusedBy}
+use Rattle.store.specs.Calls.{Call, migrate, same, unbuffered, refused as row, done}
+use Rattle.store.specs.Model.{rowsOf, withLitres, migrateRows}
+use Rattle.store.specs.State.{modelOf, planRow, firstOf, bare, holding, next, stays, step, migrated, migrateStep, stepOn, RefusedBy}
+use Rattle.store.proofs.Migrate.{migrate-sound}
 use Rattle.store.proofs.Plans.{settle-refused, settle-passed}
 use Rattle.store.proofs.Settled.{refused-step, granted-to, row-is}
 
@@ -135,3 +138,20 @@ module _ (s : State) (c : Call) where
         let few = below 512 (length (listOf s .sites)) (m .0) in
         let room = below (length (s .table)) (length (listOf s .sites)) (m .1) in
         (granted-to s c (Add f d w) q (row-is s c z (Add f d w) q ∙ o), omega (arith, size), omega (arith, size))
+
+-- ---- document 02, e: the step to edition 2
+
+module _ (s : State) (table : List Site) where
+  abbrev rows : List Row
+  rows = migrateRows (modelOf s) (length table)
+
+  module _ (z : corrupt s ≡ false) where
+    pub migrate-refused : (n : ℕ) → verdict (firstRow rows) ≡ Refused n → stepOn s (migrate table) ≡ stays s (unbuffered (row n))
+    migrate-refused n h = ap (λ (o : Option ℕ). migrateStep o s table) (migrate-sound s table z ∙ verdict-refused _ n h)
+
+    pub migrate-passed : verdict (firstRow rows) ≡ Passes
+        → (stepOn s (migrate table) ≡ record { after = migrated s table; reply = unbuffered done }) × (s .store .count ≤ length table)
+    migrate-passed h =
+        let o = verdict-passes _ h in
+        let few = ltb-false (length table) (length (listOf s .sites)) (none-clear rows o .0) in
+        (ap (λ (o : Option ℕ). migrateStep o s table) (migrate-sound s table z ∙ o), omega (arith, held-count s z .2))

@@ -30,7 +30,7 @@ ghost use Rattle.held_state.specs.Values.{BadKnown, Stands, heldLitres, heldSiz
 ghost use Rattle.store.specs.declared.Answer.the-variants as answer;
 ghost use Rattle.store.specs.declared.Request.the-variants as request;
 ghost use Rattle.store.specs.Calls.{Call, told};
-ghost use Rattle.store.specs.Model.{Model, rowsOf};
+ghost use Rattle.store.specs.Model.{Model, rowsOf, migrateRows};
 ghost use Rattle.store.specs.State.{step};
 ghost use Rattle.store.specs.Trace.{ReadsOnly};
 ghost use Rattle.store.specs.Widths.{Fitting};
@@ -61,6 +61,16 @@ pub fn add_row(count: usize, places: usize, x: Site) -> Verdict
     }
     if x.litres == 0 {
         return Verdict::Refused(6);
+    }
+    Verdict::Passes
+}
+
+// The row that refuses the step to edition 2 of a store of so many sites, over a new table of so many places.
+pub fn migrate_row(count: usize, places: usize) -> Verdict
+    ensures { λ r. ⌜ ((b : Model) → length (b .list .sites) ≡ count → r ≡ verdict (firstRow (migrateRows b places))) ⌝ }
+{
+    if places < count {
+        return Verdict::Refused(2);
     }
     Verdict::Passes
 }

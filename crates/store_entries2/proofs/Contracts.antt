@@ -27,7 +27,7 @@ use Rattle.store.specs.Trace.{History, Exact, ListRoundTrip, SameFigures}
 use Rattle.serve.specs.Entries.{Lawful}
 use Rattle.serve.proofs.Entries.{calls-history, calls-exact, calls-list, calls-same-figures, calls-one, calls-on-exact, calls-on-list, calls-on-same-figures}
 use Rattle.store_entries2.specs.Edition2.{view2, entry2}
-use Rattle.store_entries2.specs.Entries2.{Passed2, passed2, Result2, replied2, Called2, Calls2, first2, CalledOn2, CallsOn2}
+use Rattle.store_entries2.specs.Entries2.{Passed2, event2, Result2, replied2, Called2, Calls2, first2, CalledOn2, CallsOn2}
 use Rattle.store_entries2.proofs.fresh2 as of-fresh2
 use Rattle.store_entries2.proofs.call2 as of-call2
 use Rattle.store_entries2.proofs.call_on2 as of-call-on2
@@ -70,12 +70,12 @@ lawful2 = record { marked = marked2; is-fresh = refl; same-store = λ s s' e. e;
 
 -- Any calls of `call2`, from what `fresh2` gives and a table of any length and content, are a history of edition 2.
 pub calls2-history : {s : Store} {table table' : List Site} {ps : List Passed2} {rs : List Result2} → Calls2 (bare 0) table ps rs s table'
-    → History edition2 table (map passed2 ps) (map replied2 rs) (view2 s table')
+    → History edition2 table (map event2 ps) (map replied2 rs) (view2 s table')
 calls2-history = calls-history lawful2
 
 -- Demand 3 of these calls.
 pub calls2-exact : {s : Store} {table table' : List Site} {ps : List Passed2} {rs : List Result2} → Calls2 (bare 0) table ps rs s table'
-    → Exact edition2 table (map passed2 ps) (map replied2 rs) (view2 s table')
+    → Exact edition2 table (map event2 ps) (map replied2 rs) (view2 s table')
 calls2-exact = calls-exact lawful2
 
 -- Document 02, b: the list written out after them.
@@ -96,7 +96,7 @@ calls2-one = calls-one lawful2
 
 -- Demand 3 of these calls.
 pub calls-on2-exact : {k : ℕ} {s : Store} {table table' : List Site} {ps : List Passed2} {rs : List Result2} → CallsOn2 k (bare 0) table ps rs s table'
-    → Exact edition2 (take k table) (map passed2 ps) (map replied2 (map (first2 k) rs)) (view2 s (take k table')) × (drop k table' ≡ drop k table)
+    → Exact edition2 (take k table) (map event2 ps) (map replied2 (map (first2 k) rs)) (view2 s (take k table')) × (drop k table' ≡ drop k table)
 calls-on2-exact = calls-on-exact lawful2
 
 pub calls-on2-list : {k : ℕ} {s : Store} {table table' : List Site} {ps : List Passed2} {rs : List Result2} → CallsOn2 k (bare 0) table ps rs s table'

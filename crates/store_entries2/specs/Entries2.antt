@@ -4,15 +4,15 @@ use Prim.Native.Nat.{ℕ}
 use Rattle.density.specs.declared.Site.{Site}
 use Rattle.held_state.specs.declared.Store.{Store}
 use Rattle.store_entries2.specs.Edition2.{entry2}
-use Rattle.store.specs.Calls.{Call, Reply}
-use Rattle.serve.specs.Entries.{Passed, call, Result, replied, Called, Calls, first, CalledOn, CallsOn}
+use Rattle.store.specs.Calls.{Event, Reply}
+use Rattle.serve.specs.Entries.{Passed, event, Result, replied, Called, Calls, first, CalledOn, CallsOn}
 
 -- what a call is passed and gives back, as the definition has it
 abbrev pub Passed2 : Type 0
 Passed2 = Passed entry2
 
-abbrev pub passed2 : Passed2 → Call
-passed2 = call entry2
+abbrev pub event2 : Passed2 → Event
+event2 = event entry2
 
 abbrev pub Result2 : Type 0
 Result2 = Result entry2

@@ -75,18 +75,40 @@ returns-4 c =
     (same-no (first .before .same .ensures) (first .if1 .left), same-no (second .before .same2 .ensures) (second .if2 .left), same-no (third .before .same3 .ensures) (third .if3 .left), same-yes (at .same4 .ensures) (c .before .if4 .taken))
     (c .given2 .ensures)
 
-reads-requires : tie.Need-reads-requires
-reads-requires c κs = search needs
+slice-aggregate-same-5 : tie.Need-slice-aggregate-same-5
+slice-aggregate-same-5 c = search needs
+
+same-requires-5 : tie.Need-same-requires-5
+same-requires-5 c κs = search needs
+
+migrate-requires : tie.Need-migrate-requires
+migrate-requires c κs = search needs
 
 returns-5 : tie.Need-returns-5
 unfolding oneWord
 returns-5 c =
-    let fourth = c .before in
+    let at = c .before .before in
+    let fourth = at .before .before in
     let third = fourth .before .before .before in
     let second = third .before .before .before in
     let first = second .before .before .before in
     simp
-    (same-no (first .before .same .ensures) (first .if1 .left), same-no (second .before .same2 .ensures) (second .if2 .left), same-no (third .before .same3 .ensures) (third .if3 .left), same-no (fourth .before .same4 .ensures) (fourth .if4 .left))
+    (same-no (first .before .same .ensures) (first .if1 .left), same-no (second .before .same2 .ensures) (second .if2 .left), same-no (third .before .same3 .ensures) (third .if3 .left), same-no (fourth .before .same4 .ensures) (fourth .if4 .left), same-yes (at .same5 .ensures) (c .before .if5 .taken))
+    (c .migrate .ensures)
+
+reads-requires : tie.Need-reads-requires
+reads-requires c κs = search needs
+
+returns-6 : tie.Need-returns-6
+unfolding oneWord
+returns-6 c =
+    let fifth = c .before in
+    let fourth = fifth .before .before .before in
+    let third = fourth .before .before .before in
+    let second = third .before .before .before in
+    let first = second .before .before .before in
+    simp
+    (same-no (first .before .same .ensures) (first .if1 .left), same-no (second .before .same2 .ensures) (second .if2 .left), same-no (third .before .same3 .ensures) (third .if3 .left), same-no (fourth .before .same4 .ensures) (fourth .if4 .left), same-no (fifth .before .same5 .ensures) (fifth .if5 .left))
     (c .reads .ensures)
 
 pub one-word-spec : {M : Type 1} → statement M
@@ -109,5 +131,9 @@ one-word-spec =
     same-requires-4
     given-requires-2
     returns-4
+    slice-aggregate-same-5
+    same-requires-5
+    migrate-requires
+    returns-5
     reads-requires
-    returns-5)
+    returns-6)

@@ -77,6 +77,15 @@ run-table-requires-2 c κs =
     let parsed = known .before .before in
     within _ (line parsed) (parsed .parse .ensures) (known .command5 .given .1)
 
+enum-known-command-6 : tie.Need-enum-known-command-6
+enum-known-command-6 c = search needs
+
+run-migrate-requires : tie.Need-run-migrate-requires
+run-migrate-requires c κs =
+    let known = c .before in
+    let parsed = known .before .before in
+    within _ (line parsed) (parsed .parse .ensures) (known .command6 .given .1)
+
 run-apart-requires : tie.Need-run-apart-requires
 run-apart-requires c κs =
     let parsed = c .before in
@@ -100,6 +109,9 @@ returns-5 c = search needs
 returns-6 : tie.Need-returns-6
 returns-6 c = search needs
 
+returns-7 : tie.Need-returns-7
+returns-7 c = search needs
+
 pub run-line-spec : {M : Type 1} → statement M
 run-line-spec =
     tie.close
@@ -119,10 +131,13 @@ run-line-spec =
     run-call-requires-3
     enum-known-command-5
     run-table-requires-2
+    enum-known-command-6
+    run-migrate-requires
     run-apart-requires
     returns
     returns-2
     returns-3
     returns-4
     returns-5
-    returns-6)
+    returns-6
+    returns-7)

@@ -11,7 +11,7 @@ use Rattle.density.specs.Network.{noSite}
 use Rattle.table.specs.Table.{overlay}
 use Rattle.table.proofs.Overlay.{overlay-none, overlay-next, overlay-front}
 use Rattle.layout.specs.Layout.{placesIn, sitesIn}
-use Rattle.layout.proofs.RoundTrip.{length-sites}
+use Rattle.layout.proofs.Reading.{length-sites}
 use Rattle.layout.proofs.Places.{place-small, place-room, places-by, site-at}
 use Rattle.layout.proofs.list_by.Statement.{statement}
 use Rattle.layout.proofs.list_by.Tie as tie

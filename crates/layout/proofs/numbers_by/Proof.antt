@@ -11,7 +11,7 @@ use Rattle.records.proofs.Records.{mul-room}
 use Rattle.table.specs.Table.{overlay}
 use Rattle.table.proofs.Overlay.{overlay-none, overlay-next, overlay-all}
 use Rattle.layout.specs.Layout.{numbers}
-use Rattle.layout.proofs.RoundTrip.{length-numbers}
+use Rattle.layout.proofs.Reading.{length-numbers}
 use Rattle.layout.proofs.Places.{number-here}
 use Rattle.layout.proofs.numbers_by.Statement.{statement}
 use Rattle.layout.proofs.numbers_by.Tie as tie

@@ -6,7 +6,7 @@ use native.Mathlib.Omega.{arith}
 use borrow.Author.Needs.{needs}
 use lib.ListN.{length, take}
 use lib.Seq.{length-take-le}
-use Rattle.layout.proofs.RoundTrip.{front-read, store-read, store-none}
+use Rattle.layout.proofs.Reading.{front-read, behind-kept, store-read, store-none}
 use Rattle.layout.proofs.store_in.Statement.{statement}
 use Rattle.layout.proofs.store_in.Tie as tie
 
@@ -92,9 +92,15 @@ returns-2 c =
     let f = q .before .before in
     let i = f .before .before in
     let n = f .before .field2 .result in
+    let gs = g .before .before .numbers-in in
+    let ss = m .numbers-in2 in
+    let few = q .before .least .ensures in
+    let room = q .least2 .ensures in
     store-read (a .w) (a .s .now) (i .before .field .ensures) (i .if1 .left) (f .before .field2 .ensures) (f .field3 .ensures)
-    (front-read 8 (f .field3 .result) 64 24 (a .s .now) (g .before .before .numbers-in .last .0) _ (q .before .least .ensures) (groups-lent q) (g .before .before .numbers-in .ensures))
-    (front-read (a .w) n 512 536 (a .s .now) (m .numbers-in2 .last .0) _ (q .least2 .ensures) (shares-lent q) (m .numbers-in2 .ensures))
+    (front-read 8 (f .field3 .result) 64 24 (a .s .now) (gs .last .0) (a .groups .now) few (groups-lent q) (gs .ensures))
+    (front-read (a .w) n 512 536 (a .s .now) (ss .last .0) (a .shares .now) room (shares-lent q) (ss .ensures))
+    (behind-kept 8 (f .field3 .result) 64 24 (a .s .now) (gs .last .0) (a .groups .now) few (groups-lent q) (gs .ensures))
+    (behind-kept (a .w) n 512 536 (a .s .now) (ss .last .0) (a .shares .now) room (shares-lent q) (ss .ensures))
 
 pub store-in-spec : {M : Type 1} → statement M
 store-in-spec =

@@ -17,7 +17,7 @@ use Rattle.store.specs.State.{modelOf, bare, next, step}
 use Rattle.store.proofs.Settled.{zero-step}
 use Rattle.store_calls.proofs.Steps.{held-count, change-refused, change-passed}
 use Rattle.layout.specs.Layout.{placeSize, placesIn}
-use Rattle.layout.proofs.RoundTrip.{length-sites}
+use Rattle.layout.proofs.Reading.{length-sites}
 use Rattle.layout.proofs.Places.{place-room}
 use Rattle.lent.specs.Lent.{stateIn}
 use Rattle.lent.proofs.Served.{sized-is, at-small, keeps, puts-site, changed-is, changed-small}

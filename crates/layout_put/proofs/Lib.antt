@@ -1,0 +1,3 @@
+pub mod RoundTrip
+pub mod Widths
+pub mod Places

@@ -1,0 +1,2 @@
+pub mod Migrated
+pub mod Contracts
