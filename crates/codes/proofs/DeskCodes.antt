@@ -8,19 +8,19 @@ use mathlib.Core.Path.{_≡_, refl, sym, ap, ap₂, _∙_}
 use native.Mathlib.Omega.{arith}
 use borrow.Author.Tests.{eq-eqb, ne-eqb, not-true, not-false}
 use lib.Dec.{lit<, lit≤}
-use lib.IntN.{ℤ, pos, negsuc, negℤ}
+use lib.IntN.{ℤ, pos, negℤ}
 use lib.ListN.{length}
 use Rattle.records.specs.declared.Edition.{Edition}
 use Rattle.records.specs.Bytes.{Bytes}
 use Rattle.records.specs.Format.{edition1, edition2}
 use Rattle.density.specs.declared.Site.{Site}
 use Rattle.held_state.specs.Held.{State}
-use Rattle.store.specs.Calls.{Call, Reply, Told, done, wrote}
+use Rattle.store.specs.Calls.{Call, Reply, Told, unbuffered, refused, done, wrote}
 use Rattle.store.specs.Widths.{Fitting}
 use Rattle.store.proofs.Writers.{every-writer}
 use Rattle.store.specs.State.{step, migrateRow, migrateStep}
 use Rattle.layout.specs.Layout.{sitesIn}
-use Rattle.lent.specs.Lent.{Lent, stateIn, isOf, Called, Freshened}
+use Rattle.lent.specs.Lent.{Lent, stateIn, isOf, lent, laid, Called, Freshened}
 use Rattle.store_migrate_bytes.specs.Migrate.{migrates, Migrated}
 use Rattle.lent.proofs.Contracts.{laid-reply}
 use Rattle.codes.specs.declared.Coded.{Coded}
@@ -33,6 +33,14 @@ zero-code n h = sym (ap (λ (b : Bool). cond b (negℤ (pos 256)) (negℤ (pos n
 
 pub other-code : (n : ℕ) → (n ≡ 0 → ⊥) → negℤ (pos n) ≡ rowCode n
 other-code n h = sym (ap (λ (b : Bool). cond b (negℤ (pos 256)) (negℤ (pos n))) (ne-eqb n 0 h))
+
+-- a row's code is neither 0 nor a length
+pub row-not-length : (m n : ℕ) → pos m ≡ rowCode n → ⊥
+row-not-length m zero e = let z : _≡_ {A = ℕ} 0 1 = cc in omega arith
+row-not-length m (suc n) e =
+    let k : pos m ≡ negℤ (pos (suc n)) = e ∙ sym (other-code (suc n) (λ h. omega arith)) in
+    let z : _≡_ {A = ℕ} 0 1 = cc in
+    omega arith
 
 pub outcome-eq : {r r' d d' : ℤ} {x y : ℕ} → r ≡ r' → d ≡ d'
     → _≡_ {A = Coded} (record { code = r; first = x; second = y; difference = d }) (record { code = r'; first = x; second = y; difference = d' })
@@ -155,15 +163,19 @@ one-figure f = record { code = f .code; figure = f .first; kept = f .kept }
 
 -- ---- document 02, e: the step to edition 2
 
--- no row's code is 0
-row-told : (n : ℕ) → rowCode n ≡ pos 0 → ⊥
-row-told zero h = let z : _≡_ {A = ℕ} 0 1 = cc in omega arith
-row-told (suc n) h = let k : negsuc n ≡ pos 0 = other-code (suc n) (λ e. omega arith) ∙ h in let z : _≡_ {A = ℕ} 0 1 = cc in omega arith
+-- the step is answered 0 where it is done, and a row's code where it is refused; it has no buffer
+module _ (s : State) (table : List Site) where
+  over-done : (o : Option ℕ) → doneCode (migrateStep o s table .reply .answer) ≡ pos 0 → migrateStep o s table .reply .answer ≡ done
+  over-done (some n) h = absurd (row-not-length 0 n (sym h))
+  over-done none h = refl
 
--- the step is answered 0 only where it is done
-over-done : (o : Option ℕ) (s : State) (table : List Site) → doneCode (migrateStep o s table .reply .answer) ≡ pos 0 → migrateStep o s table .reply .answer ≡ done
-over-done (some n) s table h = absurd (row-told n h)
-over-done none s table h = refl
+  over-refused : (o : Option ℕ) → (doneCode (migrateStep o s table .reply .answer) ≡ pos 0 → ⊥) → (n : ℕ) × (migrateStep o s table .reply .answer ≡ refused n)
+  over-refused (some n) h = (n, refl)
+  over-refused none h = absurd (h refl)
+
+  no-buffer : (o : Option ℕ) → migrateStep o s table .reply ≡ unbuffered (migrateStep o s table .reply .answer)
+  no-buffer (some n) = refl
+  no-buffer none = refl
 
 module _ {s t s₂ t₂ : List ℕ} where
   not-migrated : (isOf edition1 s && isOf edition2 s₂) ≡ false → MigrateCode s t s₂ t₂ noStoreCode s₂ t₂
@@ -195,5 +207,34 @@ module _ {s t s₂ t₂ : List ℕ} where
         store = rw both (ap (λ (l : Lent). l .store) (x .is));
         table = rw both (ap (λ (l : Lent). l .table) (x .is));
         long = x .long;
-        reads = λ h. x .reads (answer ∙ over-done (migrateRow old fresh) old fresh (sym (f ∙ ap doneCode answer) ∙ h));
+        reads = λ h. x .reads (answer ∙ over-done old fresh (migrateRow old fresh) (sym (f ∙ ap doneCode answer) ∙ h));
       }
+
+-- back from a code to what the step over bytes promises, where the lengths are those of the two stores
+module _ {s t s₂ t₂ s₂' t₂' : List ℕ} {r : ℤ} (m : MigrateCode s t s₂ t₂ r s₂' t₂') (first : isOf edition1 s ≡ true) (second : isOf edition2 s₂ ≡ true) where
+  abbrev told : Told
+  told = migrates s t t₂ .reply .answer
+
+  pub migrate-answer : r ≡ doneCode told
+  migrate-answer = rw (first, second) at (m .code)
+
+  pub code-migrated : Migrated s t s₂ t₂ told s₂' t₂'
+  code-migrated =
+      let all = laid edition2 s₂ t₂ (migrates s t t₂) in
+      let store : s₂' ≡ all .store = rw (first, second) at (m .store) in
+      let table : t₂' ≡ all .table = rw (first, second) at (m .table) in
+      let old = stateIn edition1 s t in
+      let fresh = sitesIn (edition2 .litres) t₂ in
+      let reply : unbuffered told ≡ all .reply = sym (no-buffer old fresh (migrateRow old fresh)) ∙ sym (laid-reply edition2 s₂ t₂ (migrates s t t₂)) in
+      record {
+        is = ap₂ (λ (x y : List ℕ). lent x y (unbuffered told)) store table ∙ ap (λ (z : Reply). lent (all .store) (all .table) z) reply;
+        long = m .long;
+        reads = λ h. m .reads (migrate-answer ∙ ap doneCode h);
+      }
+
+  -- done exactly where the code is 0
+  pub code-done : r ≡ pos 0 → told ≡ done
+  code-done h = let old = stateIn edition1 s t in let fresh = sitesIn (edition2 .litres) t₂ in over-done old fresh (migrateRow old fresh) (sym migrate-answer ∙ h)
+
+  pub code-refused : (r ≡ pos 0 → ⊥) → (n : ℕ) × (told ≡ refused n)
+  code-refused h = let old = stateIn edition1 s t in let fresh = sitesIn (edition2 .litres) t₂ in over-refused old fresh (migrateRow old fresh) (λ z. h (migrate-answer ∙ z))

@@ -1,7 +1,7 @@
 -- The contracts of the exported functions of the store say what `Did`, `Figures`, `OneFigure`, `Differs`, `WroteOut`, `FreshCode` and `MigrateCode` say of the edition that a store's length tells, or that the
 -- function is for (Contracts); so any calls of them, from what `sulgheti_fresh` or `sulgheti_fresh2` writes where it answers 0 and a table of any bytes, are a history of document 01, through the step to edition 2 where they take it, and each
 -- code, figure and buffer that they give is that of the history's reply. What is written out of a list, and loaded, is the same list. The laws are over the edition. Assumes nothing.
-use Prim.Native.Nat.{ℕ, zero, suc}
+use Prim.Native.Nat.{ℕ}
 use mathlib.Core.Bool.{Bool, true, false, cond, _&&_}
 use mathlib.Core.List.{List, [], _∷_}
 use mathlib.Core.Option.{Option, none, some}
@@ -10,9 +10,8 @@ use mathlib.Core.Logic.{inl, inr}
 use native.Mathlib.Omega.{arith}
 use borrow.Author.Tests.{eqb-true, ne-eqb}
 use lib.Dec.{eqb}
-use lib.IntN.{ℤ, pos, negℤ}
+use lib.IntN.{ℤ, pos}
 use lib.ListN.{length, take}
-use Rattle.density.specs.declared.Site.{Site}
 use Rattle.records.specs.declared.Edition.{Edition}
 use Rattle.records.specs.Bytes.{Bytes}
 use Rattle.records.specs.Outcome.{passed}
@@ -24,22 +23,24 @@ use Rattle.held_state.specs.Held.{State, on, corrupt}
 use Rattle.store.specs.declared.Request.{Request}
 use Rattle.store.specs.declared.Request.the-variants.{Load, Change, Add, Propose, Share, Depot, Difference, Written, AtLeast, ListWritten}
 use Rattle.store.specs.Calls.{Call, Event, Reply, Told, unbuffered, done, wrote}
-use Rattle.store.specs.State.{Done, modelOf, effectOf, refusal, settle, step, migrateRow, migrateStep}
+use Rattle.store.specs.State.{Done, modelOf, effectOf, refusal, settle, step}
 use Rattle.store.specs.Trace.{Run, start, then, Steps, Goes, History, AllBytes, Figure, Exact, ListRoundTrip, SameFigures}
 use Rattle.store.proofs.History.{exact, same-figures}
+use Rattle.store.proofs.Steps.{both-true}
 use Rattle.store.proofs.Migrate.{migrate-zero, each-of-512}
 use Rattle.store.proofs.SameAnswers.{same-through}
 use Rattle.layout.specs.Layout.{storeSize, sitesIn}
 use Rattle.layout.proofs.Reading.{length-sites}
 use Rattle.lent.specs.Lent.{stateIn, isOf, call, Freshened}
-use Rattle.store_migrate_bytes.specs.Migrate.{into, migrates}
+use Rattle.store_migrate_bytes.specs.Migrate.{into, migrates, Migrated}
 use Rattle.lent.proofs.Contracts.{laid-reply, fresh-sized, bytes-list}
 use Rattle.lent.proofs.Served.{litres-fit}
 use Rattle.store_converted.specs.Converted.{Converted}
 use Rattle.store_converted.proofs.Converted.{written-over}
 use Rattle.store_migrate_bytes.proofs.Migrated.{store-places}
-use Rattle.codes.specs.Codes.{editionIn, rowCode, noStoreCode, doneCode, lengthCode, firstOf, secondOf, differenceOf, answerOf, Moved, Did, WroteOut, FreshCode, MigrateCode}
-use Rattle.codes.proofs.DeskCodes.{other-code}
+use Rattle.store_migrate_bytes.proofs.Contracts.{over-goes, not-over-goes, over-sized}
+use Rattle.codes.specs.Codes.{editionIn, noStoreCode, doneCode, lengthCode, firstOf, secondOf, differenceOf, answerOf, Moved, Did, WroteOut, FreshCode, MigrateCode}
+use Rattle.codes.proofs.DeskCodes.{row-not-length, migrate-answer, code-migrated, code-done, code-refused}
 use Rattle.desk.specs.Exports.{Given, coded, figures, differs, written, oneFigure, Exported, Answers, AllAnswer, Offered, editionFor, Calls, none as no-call, next, over, not-over, other, other-start, other-step, asked, question, SameGiven, ListGiven, MigratedGiven}
 
 -- ---- the edition of a store
@@ -130,14 +131,6 @@ other-migrate h m = (rw h at (m .code), rw h at (m .store), rw h at (m .table))
 
 -- ---- codes
 
--- a row's code is neither 0 nor a length
-row-not-length : (m n : ℕ) → pos m ≡ rowCode n → ⊥
-row-not-length m zero e = let z : _≡_ {A = ℕ} 0 1 = cc in omega arith
-row-not-length m (suc n) e =
-    let k : pos m ≡ negℤ (pos (suc n)) = e ∙ sym (other-code (suc n) (λ h. omega arith)) in
-    let z : _≡_ {A = ℕ} 0 1 = cc in
-    omega arith
-
 -- what answers 0 or a length has been given a store
 length-there : (m : ℕ) (x : ℤ) (b : Bool) → pos m ≡ cond b x noStoreCode → b ≡ true
 length-there m x true h = refl
@@ -145,46 +138,22 @@ length-there m x false h = let z : _≡_ {A = ℕ} 0 1 = cc in absurd (omega ari
 
 -- ---- the step to edition 2
 
-both : (a b : Bool) → a && b ≡ true → (a ≡ true) × (b ≡ true)
-both true true e = (refl, refl)
-both true false e = (refl, e)
-both false b e = absurd (let z : _≡_ {A = ℕ} 0 1 = cc in omega arith)
-
--- the code is 0 exactly where the step is done
-module _ (old : State) (new : List Site) where
-  done-by : (o : Option ℕ) → pos 0 ≡ doneCode (migrateStep o old new .reply .answer) → migrateStep o old new .reply ≡ unbuffered done
-  done-by none h = refl
-  done-by (some n) h = absurd (row-not-length 0 n h)
-
-  refused-by : (o : Option ℕ) → (doneCode (migrateStep o old new .reply .answer) ≡ pos 0 → ⊥)
-      → (migrateStep o old new .after ≡ old) × (migrateStep o old new .reply ≡ unbuffered (migrateStep o old new .reply .answer))
-  refused-by none h = absurd (h refl)
-  refused-by (some n) h = (refl, refl)
-
+-- a code of 0 is answered where both stores have their lengths
 module _ {s t s₂ t₂ s₂' t₂' : List ℕ} (m : MigrateCode s t s₂ t₂ (pos 0) s₂' t₂') where
   over-long : (isOf edition1 s ≡ true) × (isOf edition2 s₂ ≡ true)
-  over-long = both (isOf edition1 s) (isOf edition2 s₂) (length-there 0 (doneCode (migrates s t t₂ .reply .answer)) (isOf edition1 s && isOf edition2 s₂) (m .code))
+  over-long = both-true (isOf edition1 s) (isOf edition2 s₂) (length-there 0 (doneCode (migrates s t t₂ .reply .answer)) (isOf edition1 s && isOf edition2 s₂) (m .code))
 
-  over-sized : isOf edition2 s₂' ≡ true
-  over-sized = ap (λ (n : ℕ). eqb n (storeSize (edition2 .share))) (m .long) ∙ over-long .1
+  over-migrated : Migrated s t s₂ t₂ (migrates s t t₂ .reply .answer) s₂' t₂'
+  over-migrated = code-migrated m (over-long .0) (over-long .1)
 
-  over-goes : Goes (stateIn edition1 s t) (into t₂) (unbuffered done) (stateIn edition2 s₂' t₂')
-  over-goes =
-      let old = stateIn edition1 s t in
-      let new = sitesIn (edition2 .litres) t₂ in
-      let code : pos 0 ≡ doneCode (migrates s t t₂ .reply .answer) = rw (over-long .0, over-long .1) at (m .code) in
-      (refl, ap₂ (λ (z : State) (r : Reply). record { after = z; reply = r }) (m .reads refl) (sym (done-by old new (migrateRow old new) code)))
+  new-sized : isOf edition2 s₂' ≡ true
+  new-sized = over-sized over-migrated (over-long .1)
 
-module _ {s t s₂ t₂ s₂' t₂' : List ℕ} {r : ℤ} (m : MigrateCode s t s₂ t₂ r s₂' t₂') (long : isOf edition1 s ≡ true) (there : isOf edition2 s₂ ≡ true) where
-  step-code : r ≡ doneCode (migrates s t t₂ .reply .answer)
-  step-code = rw (long, there) at (m .code)
+  over-done : migrates s t t₂ .reply .answer ≡ done
+  over-done = code-done m (over-long .0) (over-long .1) refl
 
-  not-over-goes : (r ≡ pos 0 → ⊥) → Goes (stateIn edition1 s t) (into t₂) (unbuffered (migrates s t t₂ .reply .answer)) (stateIn edition1 s t)
-  not-over-goes h =
-      let old = stateIn edition1 s t in
-      let new = sitesIn (edition2 .litres) t₂ in
-      let k = refused-by old new (migrateRow old new) (λ z. h (step-code ∙ z)) in
-      (refl, ap₂ (λ (z : State) (r : Reply). record { after = z; reply = r }) (sym (k .0)) (sym (k .1)))
+  over-event : Goes (stateIn edition1 s t) (into t₂) (unbuffered (migrates s t t₂ .reply .answer)) (stateIn edition2 s₂' t₂')
+  over-event = over-goes over-migrated over-done
 
 -- ---- calls
 
@@ -197,12 +166,13 @@ run {e} {s = s} {t} o long (next {s₁ = s₁} {t₁ = t₁} {c = c} {g = g} y c
     let m = moved e s t s₁ t₁ c g x in
     let (rs, steps, all, last, offers) = run o (stays-sized e s t s₁ t₁ c long m) calls in
     (call e s t c .reply ∷ rs, then (tt, is-step e s t s₁ t₁ c long m) steps, (answers e s t s₁ t₁ c long g x, all), last, offers)
-run o long (over t₂ m calls) =
-    let (rs, steps, all, last, offers) = run (inr refl) (over-sized m) calls in
-    (unbuffered done ∷ rs, then (over-goes m) steps, (refl, all), last, offers)
+run {s = s} {t} o long (over t₂ m calls) =
+    let (rs, steps, all, last, offers) = run (inr refl) (new-sized m) calls in
+    (unbuffered (migrates s t t₂ .reply .answer) ∷ rs, then (over-event m) steps, (migrate-answer m (over-long m .0) (over-long m .1), all), last, offers)
 run {s = s} {t} o long (not-over t₂ there h m calls) =
     let (rs, steps, all, last, offers) = run o long calls in
-    (unbuffered (migrates s t t₂ .reply .answer) ∷ rs, then (not-over-goes m long there h) steps, (step-code m long there, all), last, offers)
+    let (n, refusal-is) = code-refused m long there h in
+    (unbuffered (migrates s t t₂ .reply .answer) ∷ rs, then (not-over-goes (code-migrated m long there) n refusal-is) steps, (migrate-answer m long there, all), last, offers)
 run {e} {d} {s' = s'} {t'} {vs} o long (other k h x calls) =
     let (code, store, table) = other-edition h x in
     let (rs, steps, all, last, offers) = run o (subst (λ (z : List ℕ). isOf e z ≡ true) (sym store) long) calls in
@@ -401,7 +371,7 @@ module _ {s t s₂ s₂' t₂' : List ℕ} (t₂ : List ℕ) (m : MigrateCode s 
   old-edition = told-edition s (inl refl) (over-long m .0)
 
   new-edition : editionIn s₂' ≡ edition2
-  new-edition = told-edition s₂' (inr refl) (over-sized m)
+  new-edition = told-edition s₂' (inr refl) (new-sized m)
 
   -- row 0 has not refused
   not-corrupt : corrupt (stateIn edition1 s t) ≡ false
@@ -411,8 +381,7 @@ module _ {s t s₂ s₂' t₂' : List ℕ} (t₂ : List ℕ) (m : MigrateCode s 
       by false e = refl
       by true e =
           absurd
-          (let code : pos 0 ≡ doneCode (migrates s t t₂ .reply .answer) = rw (over-long m .0, over-long m .1) at (m .code) in
-          row-not-length 0 0 (code ∙ ap (λ (d : Done). doneCode (d .reply .answer)) (migrate-zero (stateIn edition1 s t) (sitesIn (edition2 .litres) t₂) e)))
+          (row-not-length 0 0 (migrate-answer m (over-long m .0) (over-long m .1) ∙ ap (λ (d : Done). doneCode (d .reply .answer)) (migrate-zero (stateIn edition1 s t) (sitesIn (edition2 .litres) t₂) e)))
 
   -- a question for a figure is answered as before
   as-before : (c : Call) → Figure (c .request) → answerOf edition1 s t c ≡ answerOf edition2 s₂' t₂' c
@@ -420,14 +389,14 @@ module _ {s t s₂ s₂' t₂' : List ℕ} (t₂ : List ℕ) (m : MigrateCode s 
       ap (λ (r : Reply). r .answer)
       (laid-reply edition1 s t (step (stateIn edition1 s t) c)
       ∙ sym (same-through (stateIn edition1 s t) not-corrupt (each-of-512 (stateIn edition1 s t) not-corrupt (store-places (edition1 .share) s .1)) (sitesIn (edition2 .litres) t₂)
-      (unbuffered done) (stateIn edition2 s₂' t₂') (over-goes m) c f)
+      (unbuffered (migrates s t t₂ .reply .answer)) (stateIn edition2 s₂' t₂') (over-event m) c f)
       ∙ sym (laid-reply edition2 s₂' t₂' (step (stateIn edition2 s₂' t₂') c)))
 
   -- a code and a figure are those of the answer
   same-given-by : {A : Type 0} (c : Call) → Figure (c .request) → (of : Told → A) {x y : A} (z : A) → x ≡ cond (isOf (editionIn s) s) (of (answerOf (editionIn s) s t c)) z
       → y ≡ cond (isOf (editionIn s₂') s₂') (of (answerOf (editionIn s₂') s₂' t₂' c)) z → x ≡ y
   same-given-by c f of z h k =
-      (rw (old-edition, over-long m .0) at h) ∙ ap of (as-before c f) ∙ sym (rw (new-edition, over-sized m) at k)
+      (rw (old-edition, over-long m .0) at h) ∙ ap of (as-before c f) ∙ sym (rw (new-edition, new-sized m) at k)
 
   -- Document 02, e: "each question gets the figure it would have got before", at whatever content row 0 lets through.
   pub exports-as-before : MigratedGiven s t s₂' t₂'
@@ -457,7 +426,7 @@ pub exports-converted : {e : Edition} {s₀ s t s' t' s₂ s₂' t₂' : List �
     → Calls e s t vs gs edition1 s' t' → Bytes t' → (t₂ : List ℕ) → MigrateCode s' t' s₂ t₂ (pos 0) s₂' t₂' → Converted (stateIn edition1 s' t') (stateIn edition2 s₂' t₂')
 exports-converted {t' = t'} o f calls b t₂ m =
     let (rs, h, all, last, offers) = calls-history o f calls in
-    written-over (marked o) h (inputs calls) (λ i l. litres-fit edition1 t' b i) (sitesIn (edition2 .litres) t₂) (over-goes m) refl
+    written-over (marked o) h (inputs calls) (λ i l. litres-fit edition1 t' b i) (sitesIn (edition2 .litres) t₂) (over-event m) (over-done m)
 
 -- ---- the exported functions: edition 1 and edition 2
 

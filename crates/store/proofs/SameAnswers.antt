@@ -61,9 +61,6 @@ module _ (l : Listing) where
   abbrev at : Edition → ℕ → Option Plan → Model
   at e n o = record { edition = e; places = n; list = l; plan = o }
 
-  replyBy : Edition → ℕ → Option Plan → Call → Request → Reply
-  replyBy e n o c q = ruled c (firstRow (rowsOf (at e n o) c q)) (tellBy (held o) q)
-
   same-rows : (c : Call) (o : Option Plan) (q : Request) → Figure q → (e e' : Edition) (n n' : ℕ) → firstRow (rowsOf (at e n o) c q) ≡ firstRow (rowsOf (at e' n' o) c q)
   same-rows c o Load f e e' n n' = absurd f
   same-rows c o (Change i w) f e e' n n' = absurd f

@@ -355,6 +355,10 @@ module _ (s : State) (c : Call) (m : Marked (s .edition)) (h : Holds s) (f : Fed
 
 -- ---- row 0 at any state
 
+pub both-true : (a b : Bool) → a && b ≡ true → (a ≡ true) × (b ≡ true)
+both-true true b k = (refl, k)
+both-true false b k = absurd (false≢true k)
+
 zero-is : (s : State) (c : Call) (r : Reply) (s' : State) → Steps s c r s' → (r .answer ≡ refused 0) ↔ (triesZero (c .request) && corrupt s ≡ true)
 zero-is s c r s' x =
     let e : r .answer ≡ step s c .reply .answer = ap (λ (d : Done). d .reply .answer) x in
@@ -372,8 +376,4 @@ pub load-not-zero : (s : State) (c : Call) (r : Reply) (s' : State) → c .reque
 load-not-zero s c r s' t x e = false≢true (rw t at (zero-is s c r s' x .0 e))
 
 pub not-zero : (s : State) (c : Call) (r : Reply) (s' : State) → corrupt s ≡ false → Steps s c r s' → r .answer ≡ refused 0 → ⊥
-not-zero s c r s' h x e = false≢true (sym h ∙ second (triesZero (c .request)) (corrupt s) (zero-is s c r s' x .0 e))
-  where
-    second : (a b : Bool) → a && b ≡ true → b ≡ true
-    second true b k = k
-    second false b k = absurd (false≢true k)
+not-zero s c r s' h x e = false≢true (sym h ∙ both-true (triesZero (c .request)) (corrupt s) (zero-is s c r s' x .0 e) .1)

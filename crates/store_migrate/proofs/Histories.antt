@@ -1,21 +1,22 @@
 -- Calls of the typed entries of both editions with the step between them, from a fresh store of edition 1 and a table of any length and content: they are a history, so demand 3 runs
 -- through the step. Nothing is asked of their inputs or of the litres that they name: the contracts say what these are. Assumes nothing.
 use mathlib.Core.Path.{_≡_, refl, sym, ap, ap₂, subst}
-use mathlib.Core.Bool.{cond}
+use mathlib.Core.Bool.{Bool, true, false, cond}
 use mathlib.Core.List.{List, map}
 use mathlib.Core.Option.{Option, none, some}
 use Prim.Native.Nat.{ℕ}
 use native.Mathlib.Omega.{arith}
+use lib.ListN.{length}
 use Rattle.density.specs.declared.Site.{Site}
 use Rattle.table.specs.declared.Site1.{Site1}
 use Rattle.table.specs.Widths.{widened}
 use Rattle.records.specs.declared.Edition.{Edition}
-use Rattle.records.specs.Format.{edition1}
+use Rattle.records.specs.Format.{edition1, edition2}
 use Rattle.records.proofs.Samples.{marked1}
 use Rattle.held_state.specs.declared.Store.{Store}
 use Rattle.held_state.specs.Held.{State}
 use Rattle.store.specs.declared.Answer.{Answer}
-use Rattle.store.specs.Calls.{Event, migrate, Reply, Told, told, unbuffered, refused, done, shared, loaded, differ, wrote, reached}
+use Rattle.store.specs.Calls.{Event, migrate, Reply, Told, told, unbuffered, done}
 use Rattle.store.specs.State.{modelOf, migrateRow, migrateStep}
 use Rattle.store.specs.Trace.{Run, start, then, Goes, History, AllBytes, Traced, tracedOn, begun, ended, Exact, ListRoundTrip, SameFigures}
 use Rattle.store.specs.Widths.{NamedIn, AllNamed}
@@ -53,13 +54,11 @@ module _ (s : Store1) (t : List Site1) (new : List Site) (store : Store) (last :
   -- the edition after it is told by the answer
   over-edition : (a : Told) (u : Traced) → u .edition ≡ edition1
       → tracedOn (migrate new) a u .edition ≡ viewed (cond (ended a) (of2 store last) (of1 s t)) .edition
-  over-edition (refused n) u e = e
-  over-edition done u e = refl
-  over-edition (shared x w) u e = e
-  over-edition (loaded w q) u e = e
-  over-edition (differ z q) u e = e
-  over-edition (wrote n) u e = e
-  over-edition (reached x) u e = e
+  over-edition a u e = by (ended a)
+    where
+      by : (b : Bool) → cond b (record { edition = edition2; places = length new; proposal = u .proposal }) u .edition ≡ viewed (cond b (of2 store last) (of1 s t)) .edition
+      by true = refl
+      by false = e
 
 -- ---- calls, one after another
 
