@@ -1,10 +1,12 @@
 -- The pass over the sites: what holds of the sites passed, and a step of the loop. Assumes nothing.
-use mathlib.Core.Path.{_≡_, sym, ap, ap₂, _∙_, subst}
+use mathlib.Core.Path.{_≡_, refl, sym, ap, ap₂, _∙_, subst}
 use mathlib.Core.Bool.{Bool, true, false}
 use mathlib.Core.List.{List}
-use Prim.Native.Nat.{ℕ, _+_, _-_, _*_, _≤_, _<_, _^_, max}
+use Prim.Native.Nat.{ℕ, _+_, _*_, _≤_, _<_, _^_, max}
 use native.Mathlib.Nat.{le-of-suc-le}
 use native.Mathlib.Omega.{arith}
+use borrow.Author.Tests.{ltb-true, ltb-false}
+use lib.Dec.{ltb}
 use lib.ListN.{length, getD, set, replicate, length-set}
 use Rattle.sets.specs.Sum.{any}
 use Rattle.sets.proofs.Test.{fails}
@@ -81,7 +83,7 @@ module _ (list : ListArray) (plan : PlanArray) (places sizes : List ℕ) (t : Ta
               unbroken = λ r. any-more _ i (h .unbroken r) (sym (b _ _ _ i (here r)) ∙ y);
             }
 
-pub pass-end : (list : ListArray) (plan : PlanArray) (places sizes : List ℕ) → Tables list plan places sizes → (litres wholes : List ℕ) (i : ℕ) → i ≡ list .count
+pass-end : (list : ListArray) (plan : PlanArray) (places sizes : List ℕ) → Tables list plan places sizes → (litres wholes : List ℕ) (i : ℕ) → i ≡ list .count
     → Pass list plan places litres wholes i → (r : Tally) → r .broken ≡ false → r .litres ≡ litres → Ready list plan → Tallied list plan places r wholes
 unfolding sharesBroken
 pass-end list plan places sizes t litres wholes i e h r p q y =
@@ -94,6 +96,16 @@ pass-end list plan places sizes t litres wholes i e h r p q y =
     }
 
 -- what a pass that ends at a broken share leaves
-pub pass-broken : (list : ListArray) (plan : PlanArray) (places wholes : List ℕ) (r : Tally) → r .broken ≡ true → (Ready list plan → true ≡ sharesBroken (net list) (groupsIn list plan) (sharesIn list plan))
+pass-broken : (list : ListArray) (plan : PlanArray) (places wholes : List ℕ) (r : Tally) → r .broken ≡ true → (Ready list plan → true ≡ sharesBroken (net list) (groupsIn list plan) (sharesIn list plan))
     → Ready list plan → Tallied list plan places r wholes
 pass-broken list plan places wholes r p h y = record { broken = p ∙ h y; sums = λ z. absurd (fails _ z (rw p tt)) }
+
+-- what the pass leaves that ended at i: behind the last site, or where a share breaks a rule if the groups are the listed depots
+pub pass-done : (list : ListArray) (plan : PlanArray) (places sizes : List ℕ) → Tables list plan places sizes → (litres wholes : List ℕ) (i : ℕ) → i ≤ list .count → Pass list plan places litres wholes i
+    → (i < list .count → Ready list plan → true ≡ sharesBroken (net list) (groupsIn list plan) (sharesIn list plan)) → (r : Tally) → r .broken ≡ ltb i (list .count) → r .litres ≡ litres
+    → Ready list plan → Tallied list plan places r wholes
+pass-done list plan places sizes t litres wholes i l h stopped r p q = ended (ltb i (list .count)) p refl
+  where
+    ended : (b : Bool) → r .broken ≡ b → ltb i (list .count) ≡ b → Ready list plan → Tallied list plan places r wholes
+    ended true e d = pass-broken list plan places wholes r e (stopped (ltb-true i (list .count) d))
+    ended false e d = pass-end list plan places sizes t litres wholes i (omega (arith, ltb-false i (list .count) d, l)) h r e q

@@ -12,7 +12,7 @@ ghost use Rattle.tables.specs.Verdict.{verdict};
 ghost use Rattle.tables.specs.Tables.{net, groupsIn, sharesIn, Counted, Ready, Tables, lentPlan, Tallied, Formed};
 
 // One pass over the sites: the listed depots and W of each group; w × q of each site goes to `wholes`.
-// It ends at a share that breaks a rule, and at a site without a group: there the groups are not the listed depots, and row 13 refuses the plan.
+// At a share that breaks a rule, and at a site without a group (the groups are then not the listed depots, and row 13 refuses the plan), it stops adding up; from there on it only names depots.
 fn add_up(
     list: ListArray,
     count: usize,
@@ -27,37 +27,38 @@ fn add_up(
 {
     let mut set: u64 = 0;
     let mut litres = [0u64; 64];
+    let mut end = list.count;
     let mut i: usize = 0;
-    while i < list.count {
+    while i < end {
         let s = list.sites[i];
         let share = shares[i];
         let a = places[s.first as usize];
         let b = places[s.second as usize];
         let k = tables::later(a, b) as usize;
         if count <= k {
-            return Tally {
-                listed: tables::listed(list),
-                broken: true,
-                litres,
-            };
+            end = i;
+        } else {
+            let w = tables::litres_of(s);
+            let all = w * sizes[k];
+            if rows::is_broken(s, a, b, all, share) {
+                end = i;
+            } else {
+                set = tables::name(set, s);
+                litres[k] = litres[k] + w;
+                wholes[i] = all;
+                i += 1;
+            }
         }
-        let w = tables::litres_of(s);
-        let all = w * sizes[k];
-        if rows::is_broken(s, a, b, all, share) {
-            return Tally {
-                listed: tables::listed(list),
-                broken: true,
-                litres,
-            };
-        }
+    }
+    let broken = i < list.count;
+    while i < list.count {
+        let s = list.sites[i];
         set = tables::name(set, s);
-        litres[k] = litres[k] + w;
-        wholes[i] = all;
         i += 1;
     }
     Tally {
         listed: set,
-        broken: false,
+        broken,
         litres,
     }
 }
@@ -88,7 +89,7 @@ pub fn try_form(
     }
 }
 
-// Rows 12 to 16.
+// Rows 12 to 16. Row 15 compares straight from the running loads.
 pub fn plan_row(list: ListArray, plan: PlanArray) -> Verdict
     requires { ⌜ Counted list plan ⌝ }
     ensures { λ r. ⌜ r ≡ verdict (firstRow (planRows (net list) (groupsIn list plan) (sharesIn list plan))) ⌝ }
@@ -104,8 +105,8 @@ pub fn plan_row(list: ListArray, plan: PlanArray) -> Verdict
     let at = f.places;
     let q = f.sizes;
     let w = f.litres;
-    let sums = loads::loads([0u64; 64], list, &shares, &wholes);
-    if rows::loads_uneven(f.listed, &at, &w, &sums) {
+    let loads = loads::loads([0u64; 64], list, &shares, &wholes);
+    if rows::loads_uneven(f.listed, &at, &w, &loads) {
         return Verdict::Refused(15);
     }
     if rows::groups_rise(plan.count, &w, &q) {

@@ -1,5 +1,6 @@
 -- `loads::loads` meets its contract. The invariant: each depot has its parts of the sites passed, added to what it had at first. Assumes nothing.
 use mathlib.Core.Path.{_≡_, refl}
+use mathlib.Core.List.{[], _∷_}
 use Prim.Native.Nat.{ℕ, _-_, _≤_, _<_, _^_}
 use native.Mathlib.Omega.{arith}
 use lib.Dec.{eqb}
@@ -8,21 +9,34 @@ use Rattle.sets.proofs.Test.{when-≤}
 use Rattle.density.specs.Network.{noSite}
 use Rattle.density.specs.declared.Site.{Site}
 use Rattle.tables.specs.Tables.{partOf}
+use Rattle.tables.proofs.Locals.{value, memory, arrays}
 use Rattle.tables.proofs.Arrays.{added, added-two}
 use Rattle.tables.proofs.Totals.{Summed, summed-start, summed-more, part-≤}
 use borrow.Author.Needs.{needs}
 use Rattle.loads.proofs.loads.Statement.{statement}
 use Rattle.loads.proofs.loads.Tie as tie
+use Rattle.loads.proofs.loads.Code as code
+
+-- The arrays of its code, by `refl`: another one is refused. The loads returned, and passed; the list's sites; in memory the running loads, and the sites.
+arrays-are : arrays (code.function) ≡ value 64 8 ∷ value 64 8 ∷ value 512 8 ∷ memory 64 8 ∷ memory 512 8 ∷ []
+arrays-are = refl
 
 abbrev Inv-loop : tie.InvT-loop
-Inv-loop shares wholes list r₀ i₀ r i = (i ≤ list .count) × Summed (λ k. getD r₀ k 0) (partOf list shares wholes) (2 ^ 42) r i
+Inv-loop shares wholes from₀ list i₀ from i = (i ≤ list .count) × Summed (λ k. getD from₀ k 0) (partOf list shares wholes) (2 ^ 42) from i
 
 abbrev μ-loop : tie.MeasureT-loop
-μ-loop shares wholes list r₀ i₀ r i = list .count - i
+μ-loop shares wholes from₀ list i₀ from i = list .count - i
 
 -- in a turn: the function's start, and the site
 abbrev start : tie.In-loop Inv-loop μ-loop → tie.Start Inv-loop μ-loop
 start c = c .before .before
+
+-- the turns in which the site's share is read, and its w × q
+abbrev share-read : tie.After-shared-slice-known Inv-loop μ-loop → tie.In-loop Inv-loop μ-loop
+share-read c = c .before .before .before .before
+
+abbrev parted : tie.After-shared-slice-known2 Inv-loop μ-loop → tie.In-loop Inv-loop μ-loop
+parted c = share-read (c .before)
 
 abbrev site : tie.In-loop Inv-loop μ-loop → Site
 site c = getD (start c .args .t2 .sites) (c .before .loop .i) noSite
@@ -52,26 +66,26 @@ mul-x : tie.Need-mul-x Inv-loop μ-loop
 mul-x c = let s = start (c .before .before .before) in omega (arith, s .pre .1 .sites, s .pre .1 .lengths .0)
 
 shared-slice-read-x : tie.Need-shared-slice-read-x Inv-loop μ-loop
-shared-slice-read-x c = let s = start (c .before .before .before .before) in omega (arith, s .pre .1 .sites, s .pre .1 .lengths .0)
+shared-slice-read-x c = let s = start (share-read c) in omega (arith, s .pre .1 .sites, s .pre .1 .lengths .0)
 
 mul-y : tie.Need-mul-y Inv-loop μ-loop
-mul-y c = let s = start (c .before .before .before .before) in omega (arith, s .pre .1 .sites, s .pre .1 .lengths .1)
+mul-y c = let s = start (share-read c) in omega (arith, s .pre .1 .sites, s .pre .1 .lengths .1)
 
 shared-slice-read-y : tie.Need-shared-slice-read-y Inv-loop μ-loop
-shared-slice-read-y c = let s = start (c .before .before .before .before .before) in omega (arith, s .pre .1 .sites, s .pre .1 .lengths .1)
+shared-slice-read-y c = let s = start (parted c) in omega (arith, s .pre .1 .sites, s .pre .1 .lengths .1)
 
 sub-y : tie.Need-sub-y Inv-loop μ-loop
-sub-y c = let t = c .before .before .before .before .before in omega (arith, start t .pre .1 .fit _ (t .loop-test .taken) .0)
+sub-y c = let t = parted c in omega (arith, start t .pre .1 .fit _ (t .loop-test .taken) .0)
 
-mul-r : tie.Need-mul-r Inv-loop μ-loop
-mul-r c = let t = c .before .before .before .before .before in omega (arith, first-in t)
+mul-from : tie.Need-mul-from Inv-loop μ-loop
+mul-from c = let t = parted c in omega (arith, first-in t)
 
-array-read-r : tie.Need-array-read-r Inv-loop μ-loop
-array-read-r c = let t = c .before .before .before .before .before in omega (arith, first-in t)
+array-read-from : tie.Need-array-read-from Inv-loop μ-loop
+array-read-from c = let t = parted c in omega (arith, first-in t)
 
-add-r : tie.Need-add-r Inv-loop μ-loop
-add-r c =
-    let t = c .before .before .before .before .before in
+add-from : tie.Need-add-from Inv-loop μ-loop
+add-from c =
+    let t = parted c in
     let s = start t in
     let h = t .before .loop .inv .1 in
     let w : site t .litres < 2 ^ 32 = search needs in
@@ -79,51 +93,51 @@ add-r c =
     let f = s .pre .1 .fit _ (t .loop-test .taken) in
     omega (arith, w, f .0, f .1, h .low _ d, s .pre .0 _ d, s .pre .1 .sites)
 
-mul-r-2 : tie.Need-mul-r-2 Inv-loop μ-loop
-mul-r-2 c = let t = c .before .before .before .before .before in omega (arith, first-in t)
+mul-from-2 : tie.Need-mul-from-2 Inv-loop μ-loop
+mul-from-2 c = let t = parted c in omega (arith, first-in t)
 
-array-write-r : tie.Need-array-write-r Inv-loop μ-loop
-array-write-r c = let t = c .before .before .before .before .before in omega (arith, first-in t)
+array-write-from : tie.Need-array-write-from Inv-loop μ-loop
+array-write-from c = let t = parted c in omega (arith, first-in t)
 
-mul-r-3 : tie.Need-mul-r-3 Inv-loop μ-loop
-mul-r-3 c = let t = c .before .before .before .before .before in omega (arith, second-in t)
+mul-from-3 : tie.Need-mul-from-3 Inv-loop μ-loop
+mul-from-3 c = let t = parted c in omega (arith, second-in t)
 
-array-read-r-2 : tie.Need-array-read-r-2 Inv-loop μ-loop
-array-read-r-2 c = let t = c .before .before .before .before .before in omega (arith, second-in t)
+array-read-from-2 : tie.Need-array-read-from-2 Inv-loop μ-loop
+array-read-from-2 c = let t = parted c in omega (arith, second-in t)
 
-add-r-2 : tie.Need-add-r-2 Inv-loop μ-loop
-add-r-2 c =
-    let t = c .before .before .before .before .before in
+add-from-2 : tie.Need-add-from-2 Inv-loop μ-loop
+add-from-2 c =
+    let t = parted c in
     let s = start t in
     let h = t .before .loop .inv .1 in
     let x = getD (s .args .shares .now) (t .before .loop .i) 0 in
     let w : site t .litres < 2 ^ 32 = search needs in
     let d = second-in t in
     let f = s .pre .1 .fit _ (t .loop-test .taken) in
-    omega (arith, w, f .0, f .1, h .low _ d, s .pre .0 _ d, s .pre .1 .sites, added (t .before .loop .r) (site t .first) x (omega (arith, h .wide, first-in t)) (site t .second), when-≤ (eqb (site t .first) (site t .second)) x)
+    omega (arith, w, f .0, f .1, h .low _ d, s .pre .0 _ d, s .pre .1 .sites, added (t .before .loop .from) (site t .first) x (omega (arith, h .wide, first-in t)) (site t .second), when-≤ (eqb (site t .first) (site t .second)) x)
 
-mul-r-4 : tie.Need-mul-r-4 Inv-loop μ-loop
-mul-r-4 c = let t = c .before .before .before .before .before in omega (arith, second-in t)
+mul-from-4 : tie.Need-mul-from-4 Inv-loop μ-loop
+mul-from-4 c = let t = parted c in omega (arith, second-in t)
 
-array-write-r-2 : tie.Need-array-write-r-2 Inv-loop μ-loop
-array-write-r-2 c = let t = c .before .before .before .before .before in omega (arith, second-in t)
+array-write-from-2 : tie.Need-array-write-from-2 Inv-loop μ-loop
+array-write-from-2 c = let t = parted c in omega (arith, second-in t)
 
 add-i : tie.Need-add-i Inv-loop μ-loop
-add-i c = let t = c .before .before .before .before .before in omega (arith, start t .pre .1 .sites)
+add-i c = let t = parted c in omega (arith, start t .pre .1 .sites)
 
 loop-less : tie.Need-loop-less Inv-loop μ-loop
 loop-less c = search needs
 
 loop-again : tie.Need-loop-again Inv-loop μ-loop
 loop-again c =
-    let t = c .before .before .before .before .before in
+    let t = parted c in
     let a = start t .args in
     let h = t .before .loop .inv .1 in
     let i = t .before .loop .i in
     let w : site t .litres < 2 ^ 32 = search needs in
     let f = start t .pre .1 .fit i (t .loop-test .taken) in
     let small : (k : ℕ) → partOf (a .t2) (a .shares .now) (a .wholes .now) k i ≤ 2 ^ 42 = part-≤ _ _ _ (start t .pre .1) i (t .loop-test .taken) (omega (arith, w, f .1)) in
-    let two = added-two (t .before .loop .r) (site t .first) (getD (a .shares .now) i 0) (site t .second) (getD (a .wholes .now) i 0 - getD (a .shares .now) i 0) (omega (arith, h .wide, first-in t)) (omega (arith, h .wide, second-in t)) in
+    let two = added-two (t .before .loop .from) (site t .first) (getD (a .shares .now) i 0) (site t .second) (getD (a .wholes .now) i 0 - getD (a .shares .now) i 0) (omega (arith, h .wide, first-in t)) (omega (arith, h .wide, second-in t)) in
     (search needs, summed-more _ _ (2 ^ 42) _ _ i h (simp length-set (h .wide)) (λ k m. two k) (λ k m. small k))
 
 returns : tie.Need-returns Inv-loop μ-loop
@@ -147,16 +161,16 @@ loads-spec =
     mul-y
     shared-slice-read-y
     sub-y
-    mul-r
-    array-read-r
-    add-r
-    mul-r-2
-    array-write-r
-    mul-r-3
-    array-read-r-2
-    add-r-2
-    mul-r-4
-    array-write-r-2
+    mul-from
+    array-read-from
+    add-from
+    mul-from-2
+    array-write-from
+    mul-from-3
+    array-read-from-2
+    add-from-2
+    mul-from-4
+    array-write-from-2
     add-i
     loop-less
     loop-again

@@ -1,17 +1,24 @@
 -- `rows::loads_uneven` meets its contract. The invariant: no depot passed is listed and uneven. Assumes nothing.
-use mathlib.Core.Path.{_≡_, sym, ap, _∙_}
+use mathlib.Core.Path.{_≡_, refl, sym, ap, _∙_}
 use mathlib.Core.Logic.{⊎-elim}
 use mathlib.Core.Bool.{false}
+use mathlib.Core.List.{[]}
 use Prim.Native.Nat.{_-_, _≤_}
 use native.Mathlib.Omega.{arith}
 use Rattle.sets.specs.Sum.{any}
 use Rattle.sets.proofs.Set.{any-start, any-more, any-here}
 use Rattle.density.specs.Network.{Listing}
 use Rattle.records.specs.Values.{listing}
+use Rattle.tables.proofs.Locals.{arrays}
 use Rattle.tables.proofs.Totals.{unevenAt, uneven-is, uneven-here, even-here, unlisted-here}
 use borrow.Author.Needs.{needs}
 use Rattle.rows.proofs.loads_uneven.Statement.{statement}
 use Rattle.rows.proofs.loads_uneven.Tie as tie
+use Rattle.rows.proofs.loads_uneven.Code as code
+
+-- Its code has no array, by `refl`: the loads, W of each group and the places are read where they lie.
+arrays-are : arrays (code.function) ≡ []
+arrays-are = refl
 
 abbrev Inv-loop : tie.InvT-loop
 Inv-loop all places litres sums d₀ d = (d ≤ 64) × ((l : Listing) → any (unevenAt l all sums places litres) d ≡ false)

@@ -1,5 +1,6 @@
 -- `verify::plan_row` meets its contract. Assumes nothing.
 use mathlib.Core.Path.{_≡_, refl, sym, _∙_}
+use mathlib.Core.List.{[], _∷_}
 use Prim.Native.Nat.{ℕ}
 use native.Mathlib.Omega.{arith}
 use lib.ListN.{length, take, getD-replicate}
@@ -8,11 +9,18 @@ use Rattle.density.specs.Rows.{firstRow, planRows, loadsUneven, groupsRise}
 use Rattle.tables.specs.declared.Verdict.the-variants.{Passes}
 use Rattle.tables.specs.Verdict.{verdict}
 use Rattle.tables.specs.Tables.{net, groupsIn, sharesIn}
+use Rattle.tables.proofs.Locals.{value, memory, arrays}
 use Rattle.tables.proofs.Verdicts.{form-refused, row-15, row-16, plan-passes, small, kept-parts, kept-levels}
 use Rattle.tables.proofs.Shares.{groups-count}
 use Rattle.tables.proofs.Totals.{listed-place}
 use Rattle.verify.proofs.plan_row.Statement.{statement}
 use Rattle.verify.proofs.plan_row.Tie as tie
+use Rattle.verify.proofs.plan_row.Code as code
+
+-- The arrays of its code, by `refl`: another one is refused. The list's sites; the plan's groups and shares; in memory the groups, the shares and w × q of each site; from `try_form` places, q and W; in memory each depot's place, q and W of
+-- each group, and the loads, which row 15 reads there; the loads from `loads`, and the zeros that it adds to.
+arrays-are : arrays (code.function) ≡ value 512 8 ∷ value 64 8 ∷ value 512 8 ∷ memory 64 8 ∷ memory 512 8 ∷ memory 512 8 ∷ value 64 1 ∷ value 64 8 ∷ value 64 8 ∷ memory 64 1 ∷ memory 64 8 ∷ memory 64 8 ∷ memory 64 8 ∷ value 64 8 ∷ value 64 8 ∷ []
+arrays-are = refl
 
 many : (s : tie.Start) → length (s .args .plan .shares) ≡ 512
 many s = search needs

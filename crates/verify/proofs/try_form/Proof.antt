@@ -1,13 +1,20 @@
 -- `verify::try_form` meets its contract. Assumes nothing.
-use mathlib.Core.Path.{_≡_, sym}
+use mathlib.Core.Path.{_≡_, refl, sym}
+use mathlib.Core.List.{[], _∷_}
 use native.Mathlib.Omega.{arith}
 use lib.ListN.{length, take, length-map}
 use lib.Seq.{length-take-le}
 use borrow.Author.Needs.{needs}
 use Rattle.tables.specs.Tables.{lentPlan}
+use Rattle.tables.proofs.Locals.{value, memory, arrays}
 use Rattle.tables.proofs.Verdicts.{tables-of, formed}
 use Rattle.verify.proofs.try_form.Statement.{statement}
 use Rattle.verify.proofs.try_form.Tie as tie
+use Rattle.verify.proofs.try_form.Code as code
+
+-- The arrays of its code, by `refl`: another one is refused. Places, q and W returned; the list's sites; in memory each depot's place and q of each group; W from `add_up`, and taken out of what it returns; places and q from `tables`.
+arrays-are : arrays (code.function) ≡ value 64 1 ∷ value 64 8 ∷ value 64 8 ∷ value 512 8 ∷ memory 64 1 ∷ memory 64 8 ∷ value 64 8 ∷ value 64 8 ∷ value 64 1 ∷ value 64 8 ∷ []
+arrays-are = refl
 
 few : (s : tie.Start) → length (take (s .args .count) (s .args .sets .now)) ≡ s .args .count
 few s = length-take-le _ _ (omega (arith, s .pre .0 .groups, s .pre .1))
