@@ -20,7 +20,7 @@ hex() {
 for text in samples/*.txt; do
     name=$(basename "$text")
     for edition in '' -2; do
-        [ "$name$edition" != aquatic.txt ] || continue
+        case $name$edition in aquatic.txt | crews.txt) continue ;; esac
         tools/list.sh $edition <"$text" >"$work/list"
         target/bin/plan <"$work/list" | diff "tests/plans/$name" - || fail "$text $edition: not the stored plan"
         list=$(hex <"$work/list")
@@ -42,13 +42,19 @@ both_ways() {
     read -r _ n m list2 down < <(echo "downgrade ${up:0:2*n} ${down:0:2*m} 3076 3717" | target/bin/console)
     [ "${list2:0:2*n} ${down:0:2*m}" = "${list^^} $plan" ] || fail "$1: there and back are other bytes"
 }
-for text in samples/*.txt; do [ "$text" = samples/aquatic.txt ] || both_ways "$text"; done
-read -r answer row _ < <(echo "downgrade $(tools/list.sh -2 samples/aquatic.txt | hex) 3076" | target/bin/console)
-[ "$answer $row" = 'refused 21' ] || fail "aquatic.txt: downgraded, it is not refused by row 21"
+for text in samples/*.txt; do
+    case $text in
+    samples/aquatic.txt | samples/crews.txt)
+        read -r answer row _ < <(echo "downgrade $(tools/list.sh -2 "$text" | hex) 3076" | target/bin/console)
+        [ "$answer $row" = 'refused 21' ] || fail "$text: downgraded, it is not refused by row 21"
+        ;;
+    *) both_ways "$text" ;;
+    esac
+done
 
 # a desk's list in a file, as README has it: changed, with a site more, written out and read by `plan`; unchanged it is the file that was loaded
 written_out() {
-    read -r _ length bytes < <(printf '%s\n' "$@" 'list 4100' | target/bin/console | tail -n 1)
+    read -r _ length bytes < <(printf '%s\n' "$@" 'list 4166' | target/bin/console | tail -n 1)
     printf '%b' "$(sed 's/../\\x&/g' <<<"${bytes:0:2*length}")"
 }
 tools/list.sh samples/coast.txt >"$work/list"
@@ -63,6 +69,12 @@ written_out 'table2 10' "load $list" | cmp - "$work/list" || fail "the list of e
 group 1: depot 0 carries 4294967295 litres
 group 2: depot 1 carries 70000 litres
 group 3: depot 6 carries 65536 litres" ] || fail "the list of edition 2 written out is not the desk's"
+
+tools/list.sh -2 samples/crews.txt >"$work/list"
+list=$(hex <"$work/list")
+written_out 'table2 5' "load $list" | cmp - "$work/list" || fail "the list with a roll written out is not the one loaded"
+[ "$(written_out 'table2 5' "load $list" 'change 0 1600' 'add 3 3 60' | target/bin/plan | head -n 2)" = "5 sites, 4 depots, 3 groups
+group 1: depots 0 1 carry 1600 litres, 400 per crew" ] || fail "the list with a roll written out is not the desk's"
 
 # the records that document 01 gives
 tools/list.sh <samples/two.txt | cmp - crates/depots/stdin || fail "two.txt: not the sample of depots"
@@ -86,6 +98,13 @@ tools/list.sh <"$work/most" | cmp - tests/depots/full.in || fail "512 sites"
 [ "$(printf '# none\n' | tools/list.sh -2 | target/bin/plan)" = "0 sites, 0 depots, 0 groups" ] || fail "no sites in edition 2"
 [ "$(printf '# none\n' | tools/list.sh -2 | hex)" = 4c320000 ] || fail "no sites in edition 2: not the record"
 [ "$(printf '08 063 0004294967295\n1 2 65536' | tools/list.sh -2 | hex)" = 4c3202005332083fffffffff5332010200000100 ] || fail "two sites in edition 2"
+[ "$(printf 'crews 63 9 # nine\n0 1 12\r\n\tcrews 00 03\n' | tools/list.sh -2 | hex)" = "4c320100533200010c00000044520301$(printf '%0122d' 0)09" ] || fail "a list with a roll"
+[ "$(printf '0 1 12\ncrews 0 3' | tools/list.sh -2 | target/bin/plan)" = "1 site, 2 depots, 1 group
+group 1: depots 0 1 carry 12 litres, 3 per crew
+site 0: depot 0 brings 9, depot 1 brings 3 of 12 litres" ] || fail "three crews and one"
+[ "$(printf 'crews 5 1\n' | tools/list.sh -2 | target/bin/plan)" = "0 sites, 0 depots, 0 groups" ] || fail "a roll without sites"
+[ "$(for ((i = 0; i < 64; i++)); do echo "$i $i 7"; echo "crews $i 9"; done | tools/list.sh -2 | target/bin/plan | sed -n '1,2p' | sed 's/depots 0 .* carry/carry/')" = "64 sites, 64 depots, 1 group
+group 1: carry 448 litres, 448/576 per crew" ] || fail "nine crews each"
 sed 's/65535$/4294967295/' "$work/most" | tools/list.sh -2 >"$work/list"
 [ "$(target/bin/plan <"$work/list" | sed -n '1p;$p')" = "512 sites, 64 depots, 1 group
 site 511: depot 63 brings 4294967295 of 4294967295 litres" ] || fail "512 sites in edition 2"
@@ -144,6 +163,12 @@ refused '0 1 9.5' 1 'the litres are not a number from 1 to 65535'
 for litres in 0 4294967296 9999999999 18446744073709551617 -1 70000.5; do
     refused "0 1 70000\n0 1 $litres\n" 2 'the litres are not a number from 1 to 4294967295' -2
 done
+refused '0 1 9\ncrews 0 1\n' 2 'crews need a list of edition 2: use the option -2'
+refused 'crews 0\n' 1 'not a depot and a number: crews DEPOT N' -2
+refused 'crews 64 1\n' 1 'the depot is not a number from 0 to 63' -2
+refused '0 1 9\ncrews 0 0\n' 2 'the crews are not a number from 1 to 9' -2
+refused 'crews 0 10\n' 1 'the crews are not a number from 1 to 9' -2
+refused 'crews 0 1\ncrews 00 2\n' 2 'the crews of depot 0 a second time' -2
 refused "$(cat "$work/most")\n0 0 1\n" 513 'more than 512 sites'
 
 # said ROW RECORD WORDS: the program refuses tests/depots/rowROW.in and the record, of edition 2, in the words
@@ -153,10 +178,17 @@ said() {
 }
 said 1 'L2\x00' 'the list has under 4 bytes or begins neither with 4C 53 nor with 4C 32'
 said 2 'L2\x01\x02' 'the list has more than 512 sites'
-said 3 'L2\x01\x00ST\x00\x01\x0A\x00' "the list's length is not 4 + 6 x sites, or 4 + 8 x sites if it begins with 4C 32"
-said 4 'L2\x01\x00ST\x00\x01\x0A\x00\x00\x00' 'a site does not begin with 53 54, or with 53 32 if the list begins with 4C 32'
+said 3 'L2\x01\x00ST\x00\x01\x0A\x00' "the list's length is not 4 + 6 x sites or, if it begins with 4C 32, 4 + 8 x sites or 66 more with a roll"
+said 4 'L2\x01\x00ST\x00\x01\x0A\x00\x00\x00' 'a site does not begin with 53 54 or, if the list begins with 4C 32, with 53 32; or its roll does not begin with 44 52'
 said 5 'L2\x01\x00S2\x40\x01\x0A\x00\x00\x00' 'a site names a depot above 63'
 said 6 'L2\x01\x00S2\x00\x01\x00\x00\x00\x00' 'a site has 0 litres'
+roll_said() {
+    [ "$(printf "L2\x01\x00S2\x00\x01\x0A\x00\x00\x00$2" | cat - <(head -c "$3" /dev/zero) | target/bin/plan)" = "refused $1" ] || fail "a roll: $1"
+}
+roll_said "3: the list's length is not 4 + 6 x sites or, if it begins with 4C 32, 4 + 8 x sites or 66 more with a roll" 'DR\x03\x01' 61
+roll_said '4: a site does not begin with 53 54 or, if the list begins with 4C 32, with 53 32; or its roll does not begin with 44 52' 'RD\x03\x01' 62
+roll_said '22: a depot has more than 9 crews in the roll' 'DR\x00\x01\x0A' 61
+roll_said '23: a site names a depot that has no crew in the roll' 'DR\x03\x00\x09' 61
 [ "$(target/bin/plan </dev/null)" = "refused 1: the list has under 4 bytes or begins neither with 4C 53 nor with 4C 32" ] || fail "no input"
 
 echo "plan.sh: lists in words give the stored plans, and bad ones are refused"

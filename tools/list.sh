@@ -5,7 +5,8 @@
 #     tools/list.sh -2 samples/aquatic.txt > aquatic.list   # a list of edition 2
 #
 # A site is a line of three decimal numbers apart by spaces or tabs: its first depot, its second depot
-# (0 to 63, the same twice for an own site) and its litres: 1 to 65535, or with -2 1 to 4294967295. Blank lines
+# (0 to 63, the same twice for an own site) and its litres: 1 to 65535, or with -2 1 to 4294967295. With -2 a line
+# `crews DEPOT N` gives a depot N crews, 1 to 9, and the list a roll: in it every other depot that a site names has one crew. Blank lines
 # are passed over, and so is all from a `#` to the end of a line, a carriage return at the end and a UTF-8 mark at the front.
 # A list has at most 512 sites; a file of blank lines and comments alone is the list without sites.
 # Anything else is refused: a line that is none of these, has a byte 00 or 01 or over 1,000 bytes; an input
@@ -71,6 +72,8 @@ input=${input%.}
 
 line=0
 sites=0
+crews=() # of each depot that a line gives some
+named=() # 1 for each depot that a site names
 while IFS= read -r text; do
     line=$((line + 1))
     [ ${#text} -le 1000 ] || refuse "line $line: more than 1000 bytes"
@@ -78,6 +81,16 @@ while IFS= read -r text; do
     text=${text%$'\r'}
     words=(${text%%#*})
     [ ${#words[@]} -gt 0 ] || continue
+    if [ "${words[0]}" = crews ]; then
+        [ ${#words[@]} -eq 3 ] || refuse "line $line: not a depot and a number: crews DEPOT N"
+        [ $list = L2 ] || refuse "line $line: crews need a list of edition 2: use the option -2"
+        in_range "${words[1]}" 0 63 || refuse "line $line: the depot is not a number from 0 to 63"
+        in_range "${words[2]}" 1 9 || refuse "line $line: the crews are not a number from 1 to 9"
+        depot=$((10#${words[1]}))
+        [ -z "${crews[depot]-}" ] || refuse "line $line: the crews of depot $depot a second time"
+        crews[depot]=$((10#${words[2]}))
+        continue
+    fi
     [ ${#words[@]} -eq 3 ] || refuse "line $line: not three numbers: FIRST SECOND LITRES"
     in_range "${words[0]}" 0 63 || refuse "line $line: the first depot is not a number from 0 to 63"
     in_range "${words[1]}" 0 63 || refuse "line $line: the second depot is not a number from 0 to 63"
@@ -91,7 +104,14 @@ while IFS= read -r text; do
     put "${words[0]}" 1
     put "${words[1]}" 1
     put "${words[2]}" $width
+    named[10#${words[0]}]=1 named[10#${words[1]}]=1
 done <<<"${input#$'\xef\xbb\xbf'}"
+
+# the roll, where a line gives crews
+if [ ${#crews[@]} -gt 0 ]; then
+    record+=DR
+    for ((depot = 0; depot < 64; depot++)); do put "${crews[depot]-${named[depot]-0}}" 1; done
+fi
 
 body=$record
 record=$list

@@ -1,5 +1,5 @@
 #!/usr/bin/env python3
-"""Writes the console's script of calls and the answers that it must print, from document 01 and requests a to e of document 02 alone.
+"""Writes the console's script of calls and the answers that it must print, from document 01 and requests a to e and g of document 02 alone.
 
   rows_script.py DIR           writes DIR/stdin and DIR/stdout
   rows_script.py DIR PROGRAM   the same, with the answers of the part `make` taken from the program, and shows which of them differ from what is written here
@@ -9,6 +9,7 @@ Cases are written once, over an edition: `Edition` has its marks and widths, and
 The answer of a check is the row that the case is written for. It is compared with a plain reading of the table (`first_row`), and a difference stops the script.
 What is converted between the editions is read here as figures and written here in the other edition (`converted`); it is held to the rows there, and to the first bytes on the way back.
 The answers of the desk's calls are those of `Book`, document 01's plain book with the question of request a and the writer of request b, of either edition: whether a proposal is true is counted over all sets, and held to the rows.
+Request g's roll goes along with the sites (`Sites`): a size is the crews of a set added up (`size`), and each depot is to have its crews times W.
 Request e's step turns the book of edition 1 into one of edition 2 (`Book.migrate`). Around it every question is put twice and has to get the same figures, and what is written out behind it is what `converted` makes of what was written out before.
 """
 import subprocess
@@ -31,10 +32,45 @@ def own(n, w):
     return (n, n, w)
 
 
+class Sites(list):
+    """The sites of a list with a roll: 64 bytes, the crews of each depot. A plain list of sites has none."""
+
+    def __init__(self, sites, roll):
+        super().__init__(sites)
+        self.roll = bytes(roll)
+
+
+def roll_of(sites):
+    return getattr(sites, "roll", None)
+
+
+def with_roll(sites, roll):
+    return list(sites) if roll is None else Sites(sites, roll)
+
+
+def crews_roll(crews, others=0):
+    """The bytes of a roll with these crews by depot, and so many at every other."""
+    return bytes(crews.get(d, others) for d in range(64))
+
+
+def crews(sites, d):
+    """"Without a roll a listed depot has one crew.\""""
+    return 1 if roll_of(sites) is None else roll_of(sites)[d]
+
+
+def size(sites, chosen):
+    """"The size of a set becomes its crews added up.\""""
+    return sum(crews(sites, d) for d in chosen)
+
+
+ROLL_MARK = bytes.fromhex("4452")
+
+
 class Edition:
     """The marks of an edition's records, and the widths of its litres and shares in bytes."""
 
-    def __init__(self, name, list_mark, site_mark, plan_mark, share_mark, litres, share, scale):
+    def __init__(self, name, list_mark, site_mark, plan_mark, share_mark, litres, share, scale, has_rolls=False):
+        self.has_rolls = has_rolls
         self.table, self.list_mark, self.site_mark, self.plan_mark, self.share_mark = name, list_mark, site_mark, plan_mark, share_mark
         self.litres_width, self.share_width, self.site_bytes, self.share_bytes = litres, share, 4 + litres, 2 + share
         self.most = 256 ** litres - 1
@@ -54,7 +90,10 @@ class Edition:
         return (mark or self.site_mark) + number(first, 1) + number(second, 1) + number(litres, self.litres_width)
 
     def list(self, sites, count=None):
-        return self.list_mark + number(len(sites) if count is None else count, 2) + b"".join(self.site(*s) for s in sites)
+        roll = roll_of(sites)
+        assert roll is None or self.has_rolls
+        return (self.list_mark + number(len(sites) if count is None else count, 2) + b"".join(self.site(*s) for s in sites)
+                + (b"" if roll is None else ROLL_MARK + roll))
 
     def share(self, s, mark=None):
         return (mark or self.share_mark) + number(s, self.share_width)
@@ -73,7 +112,7 @@ class Edition:
 
 
 E1 = Edition("table", b"LS", b"ST", b"PL", b"SH", 2, 4, 1)
-E2 = Edition("table2", b"L2", b"S2", b"P2", b"S3", 4, 8, 429496729)
+E2 = Edition("table2", b"L2", b"S2", b"P2", b"S3", 4, 8, 429496729, has_rolls=True)
 assert E1.T == bytes.fromhex("4C53010053540001 0A00")
 assert E1.TP == bytes.fromhex("504C010100 47520300000000000000 53480A000000")
 assert E2.T == bytes.fromhex("4C32010053320001 0A000000")
@@ -84,7 +123,7 @@ assert (E1.list_length(512), E1.plan_length(64, 512), E2.list_length(512), E2.pl
 
 def scaled(figures, k):
     """Sites or shares with every figure k times as large."""
-    return [(*x[:2], k * x[2]) if isinstance(x, tuple) else k * x for x in figures]
+    return with_roll([(*x[:2], k * x[2]) if isinstance(x, tuple) else k * x for x in figures], roll_of(figures))
 
 
 def some(e, cases):
@@ -109,7 +148,7 @@ def next_group(sites, left, grouped):
     best, density = None, None
     for k in range(1, 1 << len(left)):
         chosen = {d for i, d in enumerate(left) if k >> i & 1}
-        x = Fraction(litres(sites, chosen, grouped), len(chosen))
+        x = Fraction(litres(sites, chosen, grouped), size(sites, chosen))
         if best is None or (x, len(chosen)) > (density, len(best)):
             best, density = chosen, x
     return best
@@ -138,20 +177,21 @@ def totals(sites, groups):
 
 
 def shares_of(sites, groups):
-    """Whole shares that are level: begin with all of each site to its first depot that may have it, then move along paths of sites from a depot above W to one below."""
+    """Whole shares that are level: begin with all of each site to its first depot that may have it, then move along paths of sites from a depot above its crews times W to one below."""
     by, weights = carried(sites, groups), totals(sites, groups)
     place = {d: i for i, g in enumerate(groups) for d in g}
+    target = {d: crews(sites, d) * weights[k] for d, k in place.items()}
     shares = []
     for (a, b, w), k in zip(sites, by):
-        shares.append(w * len(groups[k]) if place[a] == k else 0)
+        shares.append(w * size(sites, groups[k]) if place[a] == k else 0)
     while True:
         load = {d: 0 for d in place}
         for (a, b, w), k, s in zip(sites, by, shares):
             if place[a] == k:
                 load[a] += s
             if place[b] == k:
-                load[b] += w * len(groups[k]) - s
-        high = [d for d in place if load[d] > weights[place[d]]]
+                load[b] += w * size(sites, groups[k]) - s
+        high = [d for d in place if load[d] > target[d]]
         if not high:
             return shares
         start, seen, queue = high[0], {high[0]: None}, [high[0]]
@@ -160,17 +200,17 @@ def shares_of(sites, groups):
             for i, ((a, b, w), k) in enumerate(zip(sites, by)):
                 if a == b or place[a] != k or place[b] != k:
                     continue
-                room = shares[i] if d == a else w * len(groups[k]) - shares[i] if d == b else 0
+                room = shares[i] if d == a else w * size(sites, groups[k]) - shares[i] if d == b else 0
                 other = b if d == a else a
                 if room > 0 and other not in seen:
                     seen[other] = (d, i, room)
                     queue.append(other)
-        goal = next(d for d in seen if load[d] < weights[place[d]])
+        goal = next(d for d in seen if load[d] < target[d])
         path, d = [], goal
         while seen[d] is not None:
             path.append((seen[d][0], seen[d][1], seen[d][2]))
             d = seen[d][0]
-        much = min([load[start] - weights[place[start]], weights[place[goal]] - load[goal]] + [r for _, _, r in path])
+        much = min([load[start] - target[start], target[goal] - load[goal]] + [r for _, _, r in path])
         for d, i, _ in path:
             shares[i] += -much if d == sites[i][0] else much
 
@@ -193,22 +233,29 @@ def list_row(e, bs, places=512):
     n = at(bs, 2, 2)
     if n > 512 or n > places:
         return 2
-    if len(bs) != e.list_length(n):
+    if len(bs) != e.list_length(n) and not (e.has_rolls and len(bs) == e.list_length(n) + 66):
         return 3
     records = [bs[e.list_length(i):e.list_length(i + 1)] for i in range(n)]
-    if any(r[:2] != e.site_mark for r in records):
+    rolled = bs[e.list_length(n):]
+    if any(r[:2] != e.site_mark for r in records) or rolled and rolled[:2] != ROLL_MARK:
         return 4
     if any(r[2] > 63 or r[3] > 63 for r in records):
         return 5
     if any(at(r, 4, e.litres_width) == 0 for r in records):
         return 6
+    if rolled and any(b > 9 for b in rolled[2:]):
+        return 22
+    if rolled and any(rolled[2 + d] == 0 for r in records for d in r[2:4]):
+        return 23
     return 0
 
 
 def sites_in(e, bs):
     """The sites of a list that no row refuses."""
-    starts = [e.list_length(i) for i in range(at(bs, 2, 2))]
-    return [(bs[i + 2], bs[i + 3], at(bs, i + 4, e.litres_width)) for i in starts]
+    n = at(bs, 2, 2)
+    starts = [e.list_length(i) for i in range(n)]
+    sites = [(bs[i + 2], bs[i + 3], at(bs, i + 4, e.litres_width)) for i in starts]
+    return with_roll(sites, bs[e.list_length(n) + 2:] or None)
 
 
 def first_row(list_bytes, plan_bytes):
@@ -250,7 +297,7 @@ def plan_row(e, sites, plan_bytes):
     place = {d: i for i, x in enumerate(groups) for d in x}
     by, weights = carried(sites, groups), totals(sites, groups)
     for (a, b, w), k, s in zip(sites, by, shares):
-        whole = w * len(groups[k])
+        whole = w * size(sites, groups[k])
         if s > whole or a == b and s != whole or place[a] < k and s != 0 or place[b] < k and s != whole:
             return 14
     load = {d: 0 for d in place}
@@ -258,11 +305,11 @@ def plan_row(e, sites, plan_bytes):
         if place[a] == k:
             load[a] += s
         if a != b and place[b] == k:
-            load[b] += w * len(groups[k]) - s
-    if any(load[d] != weights[place[d]] for d in place):
+            load[b] += w * size(sites, groups[k]) - s
+    if any(load[d] != crews(sites, d) * weights[place[d]] for d in place):
         return 15
     for i in range(len(groups) - 1):
-        if weights[i] * len(groups[i + 1]) <= weights[i + 1] * len(groups[i]):
+        if weights[i] * size(sites, groups[i + 1]) <= weights[i + 1] * size(sites, groups[i]):
             return 16
     return 0
 
@@ -279,7 +326,7 @@ def converted(way, list_bytes, plan_bytes=None):
     if row:
         return row, None
     sites = sites_in(e, list_bytes)
-    if way == "downgrade" and not all(1 <= w <= 65535 for _, _, w in sites):
+    if way == "downgrade" and (not all(1 <= w <= 65535 for _, _, w in sites) or roll_of(sites) is not None):
         return 21, None
     if plan_bytes is None:
         return 0, [other.list(sites)]
@@ -292,9 +339,13 @@ def converted(way, list_bytes, plan_bytes=None):
 counted = {}
 
 
+def key_of(sites):
+    return tuple(sites), roll_of(sites)
+
+
 def definition(sites):
     """The groups of a list, counted over all sets."""
-    key = tuple(sites)
+    key = key_of(sites)
     if key not in counted:
         counted[key] = groups_of(sites)
     return counted[key]
@@ -308,16 +359,16 @@ def is_true(e, sites, plan_bytes):
     by, place = carried(sites, groups), {d: i for i, g in enumerate(groups) for d in g}
     have = {d: 0 for d in place}
     for (a, b, w), k, s in zip(sites, by, shares):
-        whole = w * len(groups[k])
+        whole = w * size(sites, groups[k])
         if s > whole or a == b and s != whole or place[a] < k and s > 0 or place[b] < k and s < whole:
             return False
         have[a] += s
         have[b] += whole - s
-    return all(have[d] == w for g, w in zip(groups, totals(sites, groups)) for d in g)
+    return all(have[d] == crews(sites, d) * w for g, w in zip(groups, totals(sites, groups)) for d in g)
 
 
 class Book:
-    """"It has a list, at first without sites, and a plan, at first none." Each call answers what the console has to print."""
+    """"It has a list, at first without sites, and a plan, at first none." Its list has the roll, or the lack of one (request g). Each call answers what the console has to print."""
 
     def __init__(self, e, places):
         self.e, self.places, self.sites, self.plan = e, places, [], None
@@ -338,7 +389,7 @@ class Book:
         if i >= len(self.sites):
             return "refused 18"
         a, b, _ = self.sites[i]
-        return self.listed(self.sites[:i] + [(a, b, w)] + self.sites[i + 1:])
+        return self.listed(with_roll(self.sites[:i] + [(a, b, w)] + self.sites[i + 1:], roll_of(self.sites)))
 
     def add(self, a, b, w):
         if w > self.e.most:
@@ -349,7 +400,9 @@ class Book:
             return "refused 5"
         if w == 0:
             return "refused 6"
-        return self.listed(self.sites + [(a, b, w)])
+        if 0 in (crews(self.sites, a), crews(self.sites, b)):
+            return "refused 23"
+        return self.listed(with_roll(self.sites + [(a, b, w)], roll_of(self.sites)))
 
     def propose(self, bs):
         row = plan_row(self.e, self.sites, bs)
@@ -373,7 +426,7 @@ class Book:
     def figures(self, d):
         """W and q of a depot, by the definition on the list alone; None where it is not listed."""
         groups = definition(self.sites)
-        return next(((w, len(g)) for g, w in zip(groups, totals(self.sites, groups)) if d in g), None)
+        return next(((w, size(self.sites, g)) for g, w in zip(groups, totals(self.sites, groups)) if d in g), None)
 
     def share(self, i):
         if self.plan is None:
@@ -381,7 +434,7 @@ class Book:
         if i >= len(self.sites):
             return "refused 18"
         groups = definition(self.sites)
-        return f"share {plan_in(self.e, self.plan)[1][i]} {self.sites[i][2] * len(groups[carried(self.sites, groups)[i]])}"
+        return f"share {plan_in(self.e, self.plan)[1][i]} {self.sites[i][2] * size(self.sites, groups[carried(self.sites, groups)[i]])}"
 
     def depot(self, d):
         if self.plan is None:
@@ -688,7 +741,7 @@ def split_ties(groups):
 def placed(sites, groups):
     """Shares that place every litre and keep row 14, each site wholly with its first depot that may have it."""
     by, place = carried(sites, groups), {d: i for i, g in enumerate(groups) for d in g}
-    return [w * len(groups[k]) if place[a] == k else 0 for (a, b, w), k in zip(sites, by)]
+    return [w * size(sites, groups[k]) if place[a] == k else 0 for (a, b, w), k in zip(sites, by)]
 
 
 def false_plan(e, words, sites, groups, shares=None):
@@ -783,13 +836,20 @@ def drawn(seed):
     return lambda n: (next(source) if n < 1 << 31 else next(source) << 31 | next(source)) % n
 
 
-def part_small(e, networks):
-    say("Small networks: the groups are counted over all sets. The true plan passes; a share changed by one, two groups exchanged, merged or split do not.")
-    draw = drawn(1)
+def drawn_roll(draw, depots):
+    """A roll with 1 to 9 crews at each of the first depots, often few, and at some of the others none or some."""
+    return bytes(1 + draw((1, 3, 9)[draw(3)]) if d < depots else draw(2) * draw(10) for d in range(64))
+
+
+def part_small(e, networks, rolls=False):
+    say("Small networks" + (" with rolls" if rolls else "") + ": the groups are counted over all sets. The true plan passes; a share changed by one, two groups exchanged, merged or split do not.")
+    draw = drawn(5 if rolls else 1)
     for k in range(networks):
         depots = 2 + draw(5)
         most = (2, 5, 20, 65535)[k % 4] * e.step
         sites = [(draw(depots), draw(depots), 1 + draw(most)) for _ in range(1 + draw(9))]
+        if rolls:
+            sites = Sites(sites, drawn_roll(draw, depots))
         groups = groups_of(sites)
         shares = shares_of(sites, groups)
         name = f"network {k}"
@@ -809,6 +869,177 @@ def part_small(e, networks):
         if splits:
             others = splits[draw(len(splits))]
             false_plan(e, f"{name}: a group split", sites, others, level(sites, others))
+
+
+PAIR = [(0, 1, 12)]
+ONES = crews_roll({}, 1)
+
+
+def rolled(sites, given, others=0):
+    """The sites with these crews by depot, and so many at every other."""
+    return Sites(sites, crews_roll(given, others))
+
+
+def listed_roll(sites):
+    """"A roll with 1 for each depot that a site names and 0 for every other.\""""
+    return Sites(sites, crews_roll({d: 1 for d in listed(sites)}))
+
+
+def part_crews():
+    e = E2
+    say("Crews, in edition 2: a list may end in a roll.")
+    assert e.list(rolled(PAIR, {0: 3, 1: 1})) == bytes.fromhex("4C32010053320001 0C000000 4452 0301") + bytes(62)
+    known(e, "(0,1) of 12, three crews and one: W 12, q 4", rolled(PAIR, {0: 3, 1: 1}), [{0, 1}], [12], [36])
+    say("The same at 1 to 9 crews of depot 0 and of depot 1: depot 0 has its crews times 12.")
+    for n in range(1, 10):
+        known(e, f"{n} crews and one", rolled(PAIR, {0: n, 1: 1}), [{0, 1}], [12], [12 * n])
+        known(e, f"{10 - n} crews and {n}", rolled(PAIR, {0: 10 - n, 1: n}), [{0, 1}], [12], [12 * (10 - n)])
+    check("row 15: level for one crew each, q = 2", e.list(rolled(PAIR, {0: 3, 1: 1})), e.plan([{0, 1}], [12]), 15)
+    check("row 15: level for one crew each, at q = 4", e.list(rolled(PAIR, {0: 3, 1: 1})), e.plan([{0, 1}], [24]), 15)
+    check("row 15: three crews and one exchanged", e.list(rolled(PAIR, {0: 1, 1: 3})), e.plan([{0, 1}], [36]), 15)
+    check("row 14: s above w x q, q = 4", e.list(rolled(PAIR, {0: 3, 1: 1})), e.plan([{0, 1}], [49]), 14)
+    two = PAIR + [own(2, 5)]
+    known(e, "(0,1) of 12, own 2 of 5, one crew each: {0,1} first", rolled(two, {0: 1, 1: 1, 2: 1}), [{0, 1}, {2}], [12, 5])
+    known(e, "the same with nine, nine and one: {2} first", rolled(two, {0: 9, 1: 9, 2: 1}), [{2}, {0, 1}], [5, 12], [108, 5])
+    false_plan(e, "the groups of one crew each", rolled(two, {0: 9, 1: 9, 2: 1}), [{0, 1}, {2}], [108, 5])
+    known(e, "own 0 of 4, own 1 of 8, one crew and two: as many litres per crew, one group", rolled([own(0, 4), own(1, 8)], {0: 1, 1: 2}), [{0, 1}], [12], [12, 24])
+    false_plan(e, "these as two groups", rolled([own(0, 4), own(1, 8)], {0: 1, 1: 2}), [{1}, {0}], [4, 16])
+    say("Nine crews at each of 64 depots: q is 576.")
+    nines = Sites([own(d, 7) for d in range(64)], crews_roll({}, 9))
+    plan = e.plan([set(range(64))], [7 * 576] * 64)
+    check("64 own sites of 7", e.list(nines), plan, 0)
+    check("row 14: s for 64 depots of one crew", e.list(nines), e.plan([set(range(64))], [7 * 64] * 64), 14)
+    check("512 own sites of 4,294,967,295 litres, nine crews each", e.list(Sites(e.LARGE, crews_roll({}, 9))), e.plan([set(range(64))], [576 * e.most] * 512), 0)
+    say("Crews at one depot only.")
+    known(e, "own 5 of 7, crews at depot 5 only", rolled([own(5, 7)], {5: 9}), [{5}], [7], [63])
+    check("row 23: (0,1), crews at depot 0 only", e.list(rolled(PAIR, {0: 9})), e.plan([{0, 1}], [12]), 23)
+    check("row 23: (0,1), crews at depot 1 only", e.list(rolled(PAIR, {1: 9})), e.plan([{0, 1}], [12]), 23)
+    say("A depot with crews that no site names is in no group.")
+    known(e, "(0,1) of 12, nine crews at every other depot", rolled(PAIR, {0: 1, 1: 1}, 9), [{0, 1}], [12], [12])
+    check("row 13: depot 2 in a group", e.list(rolled(PAIR, {0: 1, 1: 1, 2: 1})), e.plan([{0, 1}, {2}], [12]), 13)
+    check("no sites and a roll of ones", e.list(Sites([], ONES)), e.plan([], []), 0)
+    say("A roll with 1 for each depot that a site names and 0 for every other: the same plans as without one.")
+    for words, sites in (("T", [(0, 1, 10)]), ("nine sites", NINE), ("own 0 of 7, (0,1) of 6", SEVEN), ("no sites", [])):
+        groups = groups_of(sites)
+        for ss in (shares_of(sites, groups), placed(sites, groups), [0] * len(sites)):
+            row = first_row(e.list(sites), e.plan(groups, ss))
+            check(f"{words}, without a roll: {'passes' if row == 0 else 'row %d' % row}", e.list(sites), e.plan(groups, ss), row)
+            check("and with one", e.list(listed_roll(sites)), e.plan(groups, ss), row)
+    say("Rows of a list with a roll.")
+    pair, P = e.list(PAIR), e.plan([{0, 1}], [36])
+    good = ROLL_MARK + crews_roll({0: 3, 1: 1})
+    check("row 3: a roll short of a byte", pair + good[:-1], P, 3)
+    check("row 3: a byte behind a roll", pair + good + b"\0", P, 3)
+    check("row 3: two rolls", pair + good + good, P, 3)
+    check("row 3: a roll's mark alone", pair + ROLL_MARK, P, 3)
+    check("row 3: a roll before the sites counts as sites", e.list_head("0100") + good + pair[4:] + b"\0", P, 3)
+    check("row 3: a roll in edition 1", E1.list([(0, 1, 10)]) + good, E1.TP, 3)
+    for mark in ("4453", "5244", "4552", "0000"):
+        check(f"row 4: {mark} for the roll's mark", pair + bytes.fromhex(mark) + good[2:], P, 4)
+    check("row 4: a site's mark, behind it a good roll", e.list([(0, 1, 12, b"SU")]) + good, P, 4)
+    for d, n in ((0, 10), (1, 255), (63, 10), (7, 128)):
+        check(f"row 22: {n} at depot {d}", e.list(rolled(PAIR, {0: 3, 1: 1, d: n})), P, 22)
+    check("row 22: no sites, 10 at depot 0", e.list(rolled([], {0: 10})), e.plan([], []), 22)
+    check("row 23: the second site's second depot", e.list(rolled(PAIR + [(1, 2, 5)], {0: 3, 1: 1})), P, 23)
+    check("row 23: no crew at all", e.list(rolled(PAIR, {})), P, 23)
+    say("Pairs of rows, the earlier is answered.")
+    check("rows 4 and 22", pair + b"RD" + crews_roll({0: 10, 1: 1}), P, 4)
+    check("rows 5 and 22", e.list(rolled([(0, 64, 12)], {0: 10})), P, 5)
+    check("rows 5 and 23", e.list(rolled([(64, 1, 12)], {0: 1})), P, 5)
+    check("rows 6 and 22", e.list(rolled([(0, 1, 0)], {0: 10, 1: 1})), P, 6)
+    check("rows 6 and 23", e.list(rolled([(0, 1, 0)], {0: 1})), P, 6)
+    check("rows 22 and 23: the named depots have none, and depot 63 has 10", e.list(rolled(PAIR, {63: 10})), P, 22)
+    check("rows 22 and 7", e.list(rolled(PAIR, {0: 10, 1: 1})), b"", 22)
+    check("rows 23 and 7", e.list(rolled(PAIR, {0: 1})), b"", 23)
+    check("row 7, the list is good", e.list(rolled(PAIR, {0: 3, 1: 1})), b"", 7)
+    say("Going back, row 21 refuses a list with a roll, after all rows of the list and before the plan's.")
+    full = e.list(rolled(PAIR, {0: 3, 1: 1}))
+    convert("row 21", "downgrade", 21, (full,), 100)
+    convert("with its plan", "downgrade", 21, (full, P), 100, 100)
+    convert("a roll of ones too", "downgrade", 21, (e.list(listed_roll(PAIR)),), 100)
+    convert("rows 22 and 21", "downgrade", 22, (e.list(rolled(PAIR, {0: 10, 1: 1})),), 100)
+    convert("rows 23 and 21", "downgrade", 23, (e.list(rolled(PAIR, {0: 1})),), 100)
+    convert("rows 21 and 7", "downgrade", 21, (full, b""), 100, 100)
+    convert("rows 21 and 20", "downgrade", 21, (full,), 0)
+    convert("row 1: up", "upgrade", 1, (full,), 200)
+    convert("row 3: a list of edition 1 with a roll, up", "upgrade", 3, (E1.list([(0, 1, 10)]) + good,), 200)
+
+
+def roll_out(words, sites):
+    """The list that is held, written out with its roll."""
+    list_out(words, book.e.list(sites))
+
+
+def part_desk_crews():
+    e = E2
+    say("A desk of edition 2 keeps the roll, or the lack of one, of the list last loaded.")
+    table(5, e)
+    roll_out("a fresh desk has none", [])
+    three = rolled(PAIR, {0: 3, 1: 1})
+    ask("load", e.list(rolled(PAIR, {0: 10})), words="rows 22 and 23", answer="refused 22")
+    ask("load", e.list(rolled(PAIR, {0: 3})), words="row 23", answer="refused 23")
+    roll_out("still fresh", [])
+    ask("load", e.list(three), words="three crews and one", answer="done")
+    roll_out("the list with its roll", three)
+    ask("propose", e.plan([{0, 1}], [24]), words="level for one crew each", answer="refused 15")
+    ask("propose", e.plan([{0, 1}], [36]), answer="done")
+    ask("share", 0, answer="share 36 48")
+    ask("depot", 0, answer="depot 12 4")
+    ask("depot", 1, answer="depot 12 4")
+    ask("depot", 2, answer="refused 19")
+    ask("difference", 0, 1, answer="difference 0 16")
+    at_least(3, 0, 1)
+    at_least(4)
+    ask("load", e.list(rolled(PAIR, {0: 3})), words="a refused load keeps list, roll and plan", answer="refused 23")
+    ask("load", e.list(rolled(PAIR, {9: 11})), answer="refused 22")
+    ask("depot", 0, answer="depot 12 4")
+    roll_out("and the list", three)
+    ask("add", 0, 2, 5, words="row 23: depot 2 has no crew", answer="refused 23")
+    ask("add", 2, 0, 5, answer="refused 23")
+    ask("add", 64, 2, 5, words="rows 5 and 23", answer="refused 5")
+    ask("add", 0, 2, 0, words="rows 6 and 23", answer="refused 6")
+    ask("depot", 0, words="the plan is still held", answer="depot 12 4")
+    ask("change", 0, 20, words="a change and an added site drop the plan and keep the roll", answer="done")
+    ask("depot", 0, answer="refused 17")
+    roll_out("after a change", rolled([(0, 1, 20)], {0: 3, 1: 1}))
+    ask("add", 1, 0, 4, answer="done")
+    roll_out("after an added site", rolled([(0, 1, 20), (1, 0, 4)], {0: 3, 1: 1}))
+    ask("propose", e.plan([{0, 1}], [60, 4]), answer="done")
+    ask("depot", 1, answer="depot 24 4")
+    ask("load", e.list(PAIR), words="a load without a roll leaves none", answer="done")
+    roll_out("no roll", PAIR)
+    ask("add", 0, 2, 5, answer="done")
+    ask("load", e.list(listed_roll(PAIR)), words="a roll of ones is written out, the lack of one is not", answer="done")
+    roll_out("a roll of ones", listed_roll(PAIR))
+    ask("propose", e.plan([{0, 1}], [12]), answer="done")
+    ask("depot", 0, answer="depot 12 2")
+    say("Depots ranked by litres per crew.")
+    sites = rolled([own(0, 9), own(1, 8), (0, 2, 2), own(3, 4)], {0: 9, 1: 2, 2: 1, 3: 1})
+    ask("load", e.list(sites), answer="done")
+    groups = definition(book.sites)
+    ask("propose", e.plan(groups, shares_of(book.sites, groups)), answer="done")
+    ask_all(5)
+    again()
+    say("The full list with a roll: 512 sites, nine crews each.")
+    table(512)
+    full = Sites(e.LARGE, crews_roll({}, 9))
+    counted[key_of(full)] = [set(range(64))]
+    held(full, e.plan([set(range(64))], [576 * e.most] * 512))
+    ask("depot", 63, answer=f"depot {512 * e.most} 576")
+    ask("share", 511, answer=f"share {576 * e.most} {576 * e.most}")
+    ask("difference", 0, 63, answer="difference 0 331776")
+    ask("list", 4166)
+    ask("list", 4165, answer="refused 20")
+    ask("add", 0, 1, 1, answer="refused 2")
+    say("A desk of edition 1 reads no roll, and one that goes over has none.")
+    table(3, E1)
+    ask("load", E1.list([(0, 1, 10)]) + ROLL_MARK + crews_roll({0: 3, 1: 1}), answer="refused 3")
+    held([(0, 1, 10)], E1.plan([{0, 1}], [10]))
+    ask("migrate", 3, answer="done")
+    roll_out("it has gone over", [(0, 1, 10)])
+    ask("depot", 0, answer="depot 10 2")
+    ask("load", e.list(three), words="and takes lists with rolls from there on", answer="done")
+    roll_out("a roll", three)
 
 
 LONGEST = 65536  # bytes of a line
@@ -875,7 +1106,7 @@ def held(sites, plan):
 def marks():
     """Marks in litres: 0, at each group's W/q, rounded down and up, one below and one above it, and the largest."""
     groups = definition(book.sites)
-    at = [x for g, w in zip(groups, totals(book.sites, groups)) for x in (w // len(g), -(-w // len(g)))]
+    at = [x for g, w in zip(groups, totals(book.sites, groups)) for x in (w // size(book.sites, g), -(-w // size(book.sites, g)))]
     return sorted({0, 2 ** 32 - 1} | {min(max(0, x + y), 2 ** 32 - 1) for x in at for y in (-1, 0, 1)})
 
 
@@ -890,7 +1121,7 @@ def ask_all(depots):
     for mark in marks():
         ask("atleast", mark)
     ask("written", book.e.plan_length(depots, len(book.sites)))
-    ask("list", book.e.list_length(len(book.sites)))
+    ask("list", len(book.e.list(book.sites)))
 
 
 def part_desk_examples(e):
@@ -1062,11 +1293,11 @@ def again():
     record = e.list(sites)
     word, n, whole = ask("list", len(record)).split()
     assert (word, int(n), bytes.fromhex(whole)) == ("length", len(record), record)
-    assert list_row(e, record) == 0 and sites_in(e, record) == sites
+    assert list_row(e, record) == 0 and sites_in(e, record) == sites and roll_of(sites_in(e, record)) == roll_of(sites)
     for more in (0, 1):
         table(min(600, len(sites) + more))
         ask("load", bytes.fromhex(whole), answer="done")
-        assert book.sites == sites
+        assert book.sites == sites and roll_of(book.sites) == roll_of(sites)
         ask("list", len(record), answer=f"length {n} {whole}")
     if sites:
         table(len(sites) - 1)
@@ -1221,7 +1452,7 @@ def part_desk_marks(e):
         at_least(98303)
     say(f"64 groups, each depot by itself and each {1000 * e.step:,} litres below the one before: at its litres, one above, one below.")
     steps = [own(37 * k % 64, (64000 - 1000 * k) * e.step) for k in range(64)]
-    counted[tuple(steps)] = [{a} for a, _, _ in steps]  # own sites alone, no two with equal litres: the next group is the heaviest depot left
+    counted[key_of(steps)] = [{a} for a, _, _ in steps]  # own sites alone, no two with equal litres: the next group is the heaviest depot left
     held(steps, e.plan(definition(steps), [w for _, _, w in steps]))
     at_least(0, *range(64))
     at_least(1, *range(64))
@@ -1278,7 +1509,7 @@ def part_desk_tables(e):
     say("The largest list.")
     record, plan, top = e.list(e.LARGE), e.LARGE_PLAN, 8 * e.most
     n, p = len(record), len(plan)
-    counted[tuple(e.LARGE)] = [set(range(64))]  # as document 01 has it
+    counted[key_of(e.LARGE)] = [set(range(64))]  # as document 01 has it
     for places in (512, 600) if e is E1 else (600,):
         table(places)
         ask("load", record, answer="done")
@@ -1317,7 +1548,7 @@ def part_desk_tables(e):
         at_least(2 ** 32 - 1, 0)
     wide = [own(0, e.most)] * 480 + [(d, d + 1, 2) for d in range(1, 63, 2)] + [own(63, 1)]
     groups = [{0}, set(range(1, 64))]
-    counted[tuple(wide)] = groups  # depot 0 has the most; of the others any set has at most a litre for each depot, and all together have it
+    counted[key_of(wide)] = groups  # depot 0 has the most; of the others any set has at most a litre for each depot, and all together have it
     table(512)
     held(wide, e.plan(groups, [e.most] * 480 + [63] * 32))
     ask("difference", 0, 63, answer=f"difference {63 * (480 * e.most - 1)} 63")
@@ -1583,8 +1814,8 @@ def part_migrate():
         goes_over("wide figures", 8)
     say("The largest list: 512 sites, into 512 places and into 600; 511 are too few. No site can be added.")
     longest = [own(i % 64, 65535 - i % 64) for i in range(512)]
-    counted[tuple(longest)] = [{d} for d in range(64)]  # own sites alone, each depot lighter than the one before
-    counted[tuple(E1.LARGE)] = [set(range(64))]  # as document 01 has it
+    counted[key_of(longest)] = [{d} for d in range(64)]  # own sites alone, each depot lighter than the one before
+    counted[key_of(E1.LARGE)] = [set(range(64))]  # as document 01 has it
     for sites, plan, groups, places in ((E1.LARGE, E1.LARGE_PLAN, 1, 512), (longest, E1.plan([{d} for d in range(64)], [w for _, _, w in longest]), 64, 600)):
         table(600, E1)
         held(sites, plan)
@@ -1649,8 +1880,8 @@ def part_migrate():
 
 def turned(sites, groups):
     """Level shares of another kind: worked out with each site's depots exchanged."""
-    other = shares_of([(b, a, w) for a, b, w in sites], groups)
-    return [w * len(groups[k]) - (s if a != b else 0) for (a, b, w), k, s in zip(sites, carried(sites, groups), other)]
+    other = shares_of(with_roll([(b, a, w) for a, b, w in sites], roll_of(sites)), groups)
+    return [w * size(sites, groups[k]) - (s if a != b else 0) for (a, b, w), k, s in zip(sites, carried(sites, groups), other)]
 
 
 def near_miss(e, draw, sites, groups, shares):
@@ -1675,11 +1906,14 @@ def near_miss(e, draw, sites, groups, shares):
     return e.plan(groups, shares)
 
 
-def part_histories(first, histories, least, over=False):
-    """At least so many proposals become the held plan. Where `over` is true, desks go over to edition 2 on the way."""
+def part_histories(first, histories, least, over=False, rolls=False):
+    """At least so many proposals become the held plan. Where `over` is true, desks go over to edition 2 on the way. Where `rolls` is true, two lists of three that are loaded into a desk of edition 2 have one."""
     say("Histories: calls drawn by a fixed rule, over at most 6 depots. Proposals are true, true of an earlier list, near misses, and the same again."
         + (" Desks of edition 1 go over to edition 2 at any point, or try to with too few places." if over else ""))
-    draw, done, steps = drawn(11 if over else 3 if first is E1 else 7), 0, {"done": 0, "refused 2": 0, "bad line": 0}
+    if rolls:
+        say("Of the lists that are loaded in edition 2 some have a roll, and some of these a byte above 9 or a named depot without crews.")
+    draw, done, steps = drawn((11 if over else 3 if first is E1 else 7) + (12 if rolls else 0)), 0, {"done": 0, "refused 2": 0, "bad line": 0}
+    seen = set()
     for k in range(histories):
         say(f"history {k}")
         depots, few = 1 + draw(6), (1, 2, 6, None)[draw(4)]
@@ -1690,8 +1924,16 @@ def part_histories(first, histories, least, over=False):
             most = few or e.most
             if over and draw(6 if n and e is E1 else 40) == 0:
                 steps[ask("migrate", (n - 1, draw(n), draw(n), n - 1, n, n + draw(4), 600)[draw(7)] if n else draw(3))] += 1
-            elif kind < 1:
-                ask("load", e.list([(draw(depots), draw(depots), 1 + draw(most)) for _ in range(draw(6))]))
+            elif kind < (3 if rolls and not n else 1):
+                sites = [(draw(depots), draw(depots), 1 + draw(most)) for _ in range(draw(6))]
+                if rolls and e is E2 and draw(3):
+                    roll = bytearray(drawn_roll(draw, depots))
+                    if not draw(4):
+                        roll[draw(depots + 1)] = (0, 10)[draw(2)]
+                    sites = Sites(sites, roll)
+                ask("load", e.list(sites))
+                if rolls:
+                    seen.add((answers[-1], roll_of(book.sites) is None, roll_of(sites) is None))
             elif kind < 2:
                 ask("change", draw(n + 1), draw(most + 1))
             elif kind < 4:
@@ -1716,7 +1958,8 @@ def part_histories(first, histories, least, over=False):
             elif kind < 20:
                 ask("written", draw(2) * 60 + draw(60))
             elif kind < 22:
-                ask("list", (0, e.list_length(n) + draw(3) - 1, e.list_length(n), draw(60))[draw(4)])
+                long = len(e.list(book.sites))
+                ask("list", (0, long + draw(3) - 1, long, draw(60))[draw(4)])
             else:
                 near = marks()
                 ask("atleast", near[draw(len(near))] if draw(8) else draw(2) * 65536 + draw(most + 1))
@@ -1726,7 +1969,8 @@ def part_histories(first, histories, least, over=False):
             ask("propose", e.plan(groups, turned(book.sites, groups)), answer="done")
         ask_all(depots)
         again()
-    assert done >= least and (not over or min(steps.values()) >= 8), (done, steps)
+    assert done >= least and (not over or min(steps.values()) >= (2 if rolls else 8)), (done, steps)
+    assert not rolls or over or {x[0] for x in seen} >= {"done", "refused 22", "refused 23"} and {x[2] for x in seen} == {True, False}, seen
 
 
 def other_way(way):
@@ -2025,6 +2269,22 @@ def part_make(e):
         plan = e.plan(groups, shares_of(sites, groups))
         assert first_row(e.list(sites), plan) == 0
         make(words, e.list(sites), len(plan) + 3, 0, plan)
+    if e is E2:
+        for words, sites in (("(0,1) of 12, three crews and one", rolled(PAIR, {0: 3, 1: 1})), ("nine, nine and one", rolled(PAIR + [own(2, 5)], {0: 9, 1: 9, 2: 1})),
+                             ("one group of one crew and two", rolled([own(0, 4), own(1, 8)], {0: 1, 1: 2})), ("a roll of ones", listed_roll(PAIR)),
+                             ("crews that no site names", rolled([own(5, 7)], {5: 2, 6: 9})), ("no sites and a roll", Sites([], ONES))):
+            groups = groups_of(sites)
+            plan = e.plan(groups, shares_of(sites, groups))
+            assert first_row(e.list(sites), plan) == 0
+            make(words, e.list(sites), len(plan) + 3, 0, plan)
+        make("row 22", e.list(rolled(PAIR, {0: 10, 1: 1})), p, 22)
+        make("row 23", e.list(rolled(PAIR, {0: 3})), p, 23)
+        make("rows 23 and 20: the earlier", e.list(rolled(PAIR, {0: 3})), 0, 23)
+        make("row 20", e.list(rolled(PAIR, {0: 3, 1: 1})), p - 1, 20)
+        make("row 3: a roll short of a byte", e.list(rolled(PAIR, {0: 3, 1: 1}))[:-1], p, 3)
+        full = Sites(e.LARGE, crews_roll({}, 9))
+        plan = e.plan([set(range(64))], [576 * e.most] * 512)
+        make("the 512 sites, nine crews each", e.list(full), len(plan), 0, plan)
     plan = e.LARGE_PLAN
     make("the 512 sites", e.list(e.LARGE), len(plan), 0, plan)
     make("row 20: the 512 sites into one byte less", e.list(e.LARGE), len(plan) - 1, 20)
@@ -2049,6 +2309,8 @@ def main():
         part_small(e, 40 if e is E1 else 12)
         part_widths(e)
     part_editions()
+    part_crews()
+    part_small(E2, 30, rolls=True)
     part_lines(E1)
     say("The desk. Before any `table` it is fresh, of edition 1, and has 512 places.")
     for e in (E1, E2):
@@ -2063,11 +2325,14 @@ def main():
         part_desk_litres(e)
         part_desk_lines(e)
     part_desk_editions()
+    part_desk_crews()
     part_migrate()
     part_converter(cases)
     part_histories(E1, 20, 100)
     part_histories(E2, 3, 15)
     part_histories(E1, 12, 40, over=True)
+    part_histories(E2, 12, 40, rolls=True)
+    part_histories(E1, 8, 20, over=True, rolls=True)
     part_make(E1)
     part_make(E2)
     folder = sys.argv[1]

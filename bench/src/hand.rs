@@ -2,11 +2,11 @@
 //!
 //! Functions over an edition have the bytes of a place, two depots and litres, as P, those of a site's record, which has
 //! a mark before it, as R, and those of a share as S: 4, 6 and 4 in edition 1, 6, 8 and 8 in edition 2. They are compiled
-//! for each edition by itself.
+//! for each edition by itself; and those that count crews for a roll and for none, so that without a roll none is read.
 
 use std::ops::{AddAssign, Sub, SubAssign};
 
-use engine_tests::records::{Edition, ONE, TWO};
+use engine_tests::records::{Edition, Roll, ONE, ROLL_BYTES, ROLL_MARK, TWO};
 
 pub(crate) const GROUP: u16 = u16::from_le_bytes(*b"GR");
 
@@ -44,14 +44,78 @@ fn unmarked<const P: usize, const R: usize>(site: &[u8; R]) -> &[u8; P] {
     site.last_chunk().expect("P bytes behind the mark")
 }
 
+/// The crews of depots: those of a roll, or one each.
+pub(crate) trait Crews: Copy {
+    fn at(self, depot: usize) -> u64;
+
+    /// Those of a set added up.
+    fn of(self, set: u64) -> u64;
+}
+
+/// Where there is no roll.
+#[derive(Clone, Copy)]
+pub(crate) struct OneEach;
+
+impl Crews for OneEach {
+    #[inline(always)]
+    fn at(self, _: usize) -> u64 {
+        1
+    }
+
+    #[inline(always)]
+    fn of(self, set: u64) -> u64 {
+        u64::from(set.count_ones())
+    }
+}
+
+impl Crews for &Roll {
+    #[inline(always)]
+    fn at(self, depot: usize) -> u64 {
+        u64::from(self[depot & 63])
+    }
+
+    #[inline(always)]
+    fn of(self, set: u64) -> u64 {
+        let (mut sum, mut rest) = (0, set);
+        while rest != 0 {
+            sum += self.at(rest.trailing_zeros() as usize);
+            rest &= rest - 1;
+        }
+        sum
+    }
+}
+
+/// Row 22 or 23 of a roll, where sites name these depots.
+pub(crate) fn roll_refusal(roll: &Roll, listed: u64) -> Result<(), i64> {
+    let (mut above, mut crewed) = (false, 0u64);
+    for (d, &crews) in roll.iter().enumerate() {
+        above |= crews > 9;
+        crewed |= u64::from(crews != 0) << d;
+    }
+    if above {
+        return Err(22);
+    }
+    if listed & !crewed != 0 {
+        return Err(23);
+    }
+    Ok(())
+}
+
 /// Whether a list is read as one of edition 2.
 fn is_second(list: &[u8]) -> bool {
     list.starts_with(&TWO.list)
 }
 
-/// The site records of a list of at most so many sites that reads, and its listed depots, or the row. One
-/// pass over the records notes what is wrong with any of them; the rows are then answered in order.
-pub(crate) fn read<const P: usize, const R: usize>(list: &[u8], most: usize) -> Result<(&[[u8; R]], u64), i64> {
+/// What a list that reads has: the records of its sites, the listed depots, a roll or none.
+pub(crate) struct Read<'a, const R: usize> {
+    pub sites: &'a [[u8; R]],
+    pub listed: u64,
+    pub roll: Option<&'a Roll>,
+}
+
+/// A list of at most so many sites, or the row. One pass over the records notes what is wrong with any of them; the rows
+/// are then answered in order.
+pub(crate) fn read<const P: usize, const R: usize>(list: &[u8], most: usize) -> Result<Read<'_, R>, i64> {
     if list.len() < 4 || list[..2] != edition(P).list {
         return Err(1);
     }
@@ -59,10 +123,10 @@ pub(crate) fn read<const P: usize, const R: usize>(list: &[u8], most: usize) -> 
     if count > most {
         return Err(2);
     }
-    if list.len() != 4 + R * count {
-        return Err(3);
-    }
-    let (sites, _) = list[4..].as_chunks();
+    let taken = |behind: &[u8]| behind.is_empty() || P == 6 && behind.len() == ROLL_BYTES;
+    let (front, behind) = list.split_at_checked(4 + R * count).filter(|parts| taken(parts.1)).ok_or(3)?;
+    let (sites, _) = front[4..].as_chunks();
+    let roll = behind.last_chunk::<64>();
     let (mut marks, mut depots, mut dry, mut listed) = (0, 0, false, 0);
     for r in sites {
         marks |= half(r, 0) ^ u16::from_le_bytes(edition(P).site);
@@ -70,7 +134,7 @@ pub(crate) fn read<const P: usize, const R: usize>(list: &[u8], most: usize) -> 
         dry |= number(&r[4..]) == 0;
         listed |= 1u64 << (r[2] & 63) | 1u64 << (r[3] & 63);
     }
-    if marks != 0 {
+    if marks != 0 || roll.is_some() && behind[..2] != ROLL_MARK {
         return Err(4);
     }
     if depots > 63 {
@@ -79,7 +143,10 @@ pub(crate) fn read<const P: usize, const R: usize>(list: &[u8], most: usize) -> 
     if dry {
         return Err(6);
     }
-    Ok((sites, listed))
+    if let Some(roll) = roll {
+        roll_refusal(roll, listed)?;
+    }
+    Ok(Read { sites, listed, roll })
 }
 
 /// 0 where the plan passes, otherwise -row.
@@ -91,14 +158,28 @@ pub fn check(list: &[u8], plan: &[u8]) -> i64 {
 }
 
 fn refusal<const P: usize, const R: usize, const S: usize>(list: &[u8], plan: &[u8]) -> Result<(), i64> {
-    let (sites, listed) = read::<P, R>(list, SITES)?;
-    plan_refusal::<P, S>(sites.iter().map(unmarked), listed, plan)
+    let read = read::<P, R>(list, SITES)?;
+    plan_refusal::<P, S>(read.sites.iter().map(unmarked), read.listed, read.roll, plan)
 }
 
 /// Rows 7 to 16 of a plan for sites that read: first depot, second depot, litres.
 pub(crate) fn plan_refusal<'a, const P: usize, const S: usize>(
     sites: impl ExactSizeIterator<Item = &'a [u8; P]>,
     listed: u64,
+    roll: Option<&Roll>,
+    plan: &[u8],
+) -> Result<(), i64> {
+    match roll {
+        // edition 1 has none
+        Some(roll) if P == 6 => refusal_by::<P, S>(sites, listed, roll, plan),
+        _ => refusal_by::<P, S>(sites, listed, OneEach, plan),
+    }
+}
+
+fn refusal_by<'a, const P: usize, const S: usize>(
+    sites: impl ExactSizeIterator<Item = &'a [u8; P]>,
+    listed: u64,
+    crews: impl Crews,
     plan: &[u8],
 ) -> Result<(), i64> {
     if plan.len() < 5 || plan[..2] != edition(P).plan {
@@ -124,7 +205,7 @@ pub(crate) fn plan_refusal<'a, const P: usize, const S: usize>(
         marks |= mark ^ GROUP;
         let set = u64::from_le_bytes(*r);
         unfit |= set == 0 || set & seen != 0;
-        size[k] = u64::from(set.count_ones());
+        size[k] = crews.of(set);
         let mut rest = set & !seen;
         while rest != 0 {
             place[rest.trailing_zeros() as usize] = k as u8;
@@ -163,7 +244,7 @@ pub(crate) fn plan_refusal<'a, const P: usize, const S: usize>(
     let mut rest = listed;
     while rest != 0 {
         let d = rest.trailing_zeros() as usize;
-        if load[d] != litres[usize::from(place[d] & 63)] {
+        if load[d] != crews.at(d) * litres[usize::from(place[d] & 63)] {
             return Err(15);
         }
         rest &= rest - 1;
@@ -194,11 +275,11 @@ fn convert<const P: usize, const R: usize, const S: usize, const P2: usize, cons
     list_out: &mut [u8],
     plan_out: &mut [u8],
 ) -> Result<(usize, usize), i64> {
-    let (sites, listed) = read::<P, R>(list, SITES)?;
-    if P > P2 && sites.iter().fold(0, |all, r| all | number(&r[4..])) > 65_535 {
+    let Read { sites, listed, roll } = read::<P, R>(list, SITES)?;
+    if P > P2 && (roll.is_some() || sites.iter().fold(0, |all, r| all | number(&r[4..])) > 65_535) {
         return Err(21);
     }
-    plan_refusal::<P, S>(sites.iter().map(unmarked), listed, plan)?;
+    plan_refusal::<P, S>(sites.iter().map(unmarked), listed, None, plan)?;
     let front = 5 + 10 * usize::from(plan[2]);
     let lengths = (4 + R2 * sites.len(), front + (S2 + 2) * sites.len());
     if list_out.len() < lengths.0 || plan_out.len() < lengths.1 {
@@ -234,8 +315,18 @@ fn try_make<const P: usize, const R: usize, const S: usize, F: Figure>(
     list: &[u8],
     out: &mut [u8],
 ) -> Result<usize, i64> {
-    let (sites, listed) = read::<P, R>(list, SITES)?;
-    let mut maker = Maker::<F>::new(sites);
+    let Read { sites, listed, roll } = read::<P, R>(list, SITES)?;
+    match roll {
+        None => write_made::<P, S, F>(Maker::new(sites, OneEach), listed, out),
+        Some(roll) => write_made::<P, S, F>(Maker::new(sites, roll), listed, out),
+    }
+}
+
+fn write_made<const P: usize, const S: usize, F: Figure>(
+    mut maker: Maker<F, impl Crews>,
+    listed: u64,
+    out: &mut [u8],
+) -> Result<usize, i64> {
     let (groups, count) = maker.groups(listed);
     let length = 5 + 10 * count + (S + 2) * maker.count;
     if out.len() < length {
@@ -277,7 +368,8 @@ impl Figure for u64 {
 const SITES: usize = 512;
 
 /// Site i has two arcs: i at its first depot, i + 512 at its second.
-struct Maker<F> {
+struct Maker<F, C> {
+    crews: C,
     count: usize,
     litres: [u32; SITES],
     ends: [u8; 2 * SITES],
@@ -298,9 +390,10 @@ fn has(set: u64, depot: u8) -> bool {
     set >> (depot & 63) & 1 == 1
 }
 
-impl<F: Figure> Maker<F> {
-    fn new<const R: usize>(sites: &[[u8; R]]) -> Maker<F> {
+impl<F: Figure, C: Crews> Maker<F, C> {
+    fn new<const R: usize>(sites: &[[u8; R]], crews: C) -> Maker<F, C> {
         let mut m = Maker {
+            crews,
             count: sites.len(),
             litres: [0; SITES],
             ends: [0; 2 * SITES],
@@ -359,10 +452,10 @@ impl<F: Figure> Maker<F> {
 
     /// Lays the sites that the set carries on their first depot in it.
     fn lay(&mut self, set: u64, before: u64) {
-        let q = u64::from(set.count_ones());
+        let q = self.crews.of(set);
         let none = F::default();
         self.load = [none; 64];
-        let mut litres = none;
+        let mut litres = 0;
         for i in 0..self.count {
             let (first, second) = (self.ends[i] & 63, self.ends[i + SITES] & 63);
             let both = 1u64 << first | 1u64 << second;
@@ -370,7 +463,7 @@ impl<F: Figure> Maker<F> {
                 continue;
             }
             let w = u64::from(self.litres[i]);
-            litres += F::of(w);
+            litres += w;
             let (one, two) = if has(set, first) { (F::of(w * q), none) } else { (none, F::of(w * q)) };
             self.share[i] = one;
             self.share[i + SITES] = two;
@@ -378,7 +471,7 @@ impl<F: Figure> Maker<F> {
             self.load[usize::from(second)] += two;
         }
         for d in 0..64 {
-            self.target[d] = if has(set, d as u8) { litres } else { none };
+            self.target[d] = if has(set, d as u8) { F::of(litres * self.crews.at(d)) } else { none };
         }
     }
 

@@ -1,7 +1,9 @@
 //! The desk's calls written by hand in plain Rust over the same bytes, for comparison: nothing is proved of
 //! them. Layouts and answers are those of `include/sulgheti.h`.
 
-use crate::hand::{edition, number, plan_refusal, read, records, GROUP};
+use engine_tests::records::{Roll, ROLL_BYTES, ROLL_MARK};
+
+use crate::hand::{edition, number, plan_refusal, read, records, roll_refusal, Crews, OneEach, Read, GROUP};
 
 /// Row 0.
 const CORRUPT: i64 = -256;
@@ -17,6 +19,11 @@ const GROUPED: usize = 16;
 const GROUPS: usize = 24;
 const SHARES: usize = 536;
 
+/// Where the shares end; in edition 2 the roll begins there: whether there is one, then the crews.
+const fn shares_end(s: usize) -> usize {
+    SHARES + s * SITES
+}
+
 /// Calls a function over the edition that a store's length tells, with P and S as in `hand`, or with P and R.
 macro_rules! by_length {
     ($f:ident($store:ident $(, $given:expr)*)) => {
@@ -25,7 +32,7 @@ macro_rules! by_length {
     ($first:expr, $second:expr, $store:ident $(, $given:expr)*) => {
         match $store.len() {
             2584 => $first($store $(, $given)*),
-            4632 => $second($store $(, $given)*),
+            4704 => $second($store $(, $given)*),
             _ => Err(NO_STORE),
         }
     };
@@ -35,6 +42,7 @@ macro_rules! by_length {
 struct Held<'a, const P: usize, const S: usize> {
     sites: &'a [[u8; P]],
     listed: u64,
+    roll: Option<&'a Roll>,
     plan: Option<Plan<'a, S>>,
 }
 
@@ -43,6 +51,7 @@ struct Plan<'a, const S: usize> {
     groups: &'a [[u8; 8]],
     shares: &'a [[u8; S]],
     place: [u8; 64],
+    roll: Option<&'a Roll>,
 }
 
 impl<const S: usize> Plan<'_, S> {
@@ -53,7 +62,12 @@ impl<const S: usize> Plan<'_, S> {
 
     /// q of a group.
     fn size(&self, k: u8) -> u64 {
-        u64::from(u64::from_le_bytes(self.groups[usize::from(k)]).count_ones())
+        self.crews(u64::from_le_bytes(self.groups[usize::from(k)]))
+    }
+
+    /// The crews of a set.
+    fn crews(&self, set: u64) -> u64 {
+        self.roll.map_or_else(|| OneEach.of(set), |roll| roll.of(set))
     }
 
     /// W of a group.
@@ -80,12 +94,26 @@ fn held<'a, const P: usize, const S: usize>(store: &'a [u8], table: &'a [u8]) ->
     if depots > 63 || dry {
         return Err(CORRUPT);
     }
-    let plan = match word(store, HELD) {
-        0 => None,
-        1 => Some(plan_held(store, sites, listed)?),
+    let roll = roll_held::<S>(store, listed)?;
+    let plan = match (word(store, HELD), roll) {
+        (0, _) => None,
+        (1, None) => Some(plan_held(store, sites, listed, OneEach)?),
+        (1, Some(roll)) => Some(Plan { roll: Some(roll), ..plan_held(store, sites, listed, roll)? }),
         _ => return Err(CORRUPT),
     };
-    Ok(Held { sites, listed, plan })
+    Ok(Held { sites, listed, roll, plan })
+}
+
+/// The roll held or none, or row 0. A store of edition 1 has none.
+fn roll_held<const S: usize>(store: &[u8], listed: u64) -> Result<Option<&Roll>, i64> {
+    if S == 4 {
+        return Ok(None);
+    }
+    match (word(store, shares_end(S)), store.last_chunk()) {
+        (0, _) => Ok(None),
+        (1, Some(roll)) if roll_refusal(roll, listed).is_ok() => Ok(Some(roll)),
+        _ => Err(CORRUPT),
+    }
 }
 
 /// The plan held, or row 0 where rows 8 or 12 to 14 refuse it.
@@ -93,6 +121,7 @@ fn plan_held<'a, const P: usize, const S: usize>(
     store: &'a [u8],
     sites: &[[u8; P]],
     listed: u64,
+    crews: impl Crews,
 ) -> Result<Plan<'a, S>, i64> {
     let count = word(store, GROUPED);
     if count > 64 {
@@ -106,7 +135,7 @@ fn plan_held<'a, const P: usize, const S: usize>(
     for (k, r) in groups.iter().enumerate() {
         let set = u64::from_le_bytes(*r);
         wrong |= set == 0 || set & seen != 0;
-        size[k] = u64::from(set.count_ones());
+        size[k] = crews.of(set);
         let mut rest = set & !seen;
         while rest != 0 {
             place[rest.trailing_zeros() as usize] = k as u8;
@@ -125,16 +154,16 @@ fn plan_held<'a, const P: usize, const S: usize>(
     if wrong {
         return Err(CORRUPT);
     }
-    Ok(Plan { groups, shares, place })
+    Ok(Plan { groups, shares, place, roll: None })
 }
 
 fn word(store: &[u8], at: usize) -> u64 {
     u64::from_le_bytes(std::array::from_fn(|i| store[at + i]))
 }
 
-/// The store of so many sites and no plan.
-fn put_bare(store: &mut [u8], count: usize) {
-    store.fill(0);
+/// The store of so many sites and no plan; its roll stays.
+fn put_bare<const S: usize>(store: &mut [u8], count: usize) {
+    store[..shares_end(S)].fill(0);
     store[..8].copy_from_slice(&(count as u64).to_le_bytes());
 }
 
@@ -154,16 +183,25 @@ fn try_fresh<const P: usize, const S: usize>(store: &mut [u8]) -> Result<i64, i6
 
 #[inline(never)]
 pub fn load(store: &mut [u8], table: &mut [u8], list: &[u8]) -> i64 {
-    code(by_length!(try_load::<4, 6>, try_load::<6, 8>, store, table, list))
+    code(by_length!(try_load::<4, 6, 4>, try_load::<6, 8, 8>, store, table, list))
 }
 
-fn try_load<const P: usize, const R: usize>(store: &mut [u8], table: &mut [u8], list: &[u8]) -> Result<i64, i64> {
+fn try_load<const P: usize, const R: usize, const S: usize>(
+    store: &mut [u8],
+    table: &mut [u8],
+    list: &[u8],
+) -> Result<i64, i64> {
     let (places, _) = table.as_chunks_mut::<P>();
-    let (sites, _) = read::<P, R>(list, SITES.min(places.len())).map_err(|row| -row)?;
+    let Read { sites, roll, .. } = read::<P, R>(list, SITES.min(places.len())).map_err(|row| -row)?;
     for (place, r) in places.iter_mut().zip(sites) {
         place.copy_from_slice(&r[2..]);
     }
-    put_bare(store, sites.len());
+    put_bare::<S>(store, sites.len());
+    if S == 8 {
+        let (there, crews) = store[shares_end(S)..].split_at_mut(8);
+        there.copy_from_slice(&u64::from(roll.is_some()).to_le_bytes());
+        crews.copy_from_slice(roll.unwrap_or(&[0; 64]));
+    }
     Ok(0)
 }
 
@@ -186,7 +224,7 @@ fn try_change<const P: usize, const S: usize>(
         return Err(-18);
     }
     table[P * site + 2..P * site + P].copy_from_slice(&litres.to_le_bytes()[..P - 2]);
-    put_bare(store, count);
+    put_bare::<S>(store, count);
     Ok(0)
 }
 
@@ -202,7 +240,8 @@ fn try_add<const P: usize, const S: usize>(
     second: u8,
     litres: u32,
 ) -> Result<i64, i64> {
-    let count = held::<P, S>(store, table)?.sites.len();
+    let held = held::<P, S>(store, table)?;
+    let count = held.sites.len();
     if count >= SITES.min(table.len() / P) {
         return Err(-2);
     }
@@ -212,10 +251,13 @@ fn try_add<const P: usize, const S: usize>(
     if litres == 0 {
         return Err(-6);
     }
+    if held.roll.is_some_and(|roll| roll.at(usize::from(first)) == 0 || roll.at(usize::from(second)) == 0) {
+        return Err(-23);
+    }
     let place = &mut table[P * count..P * count + P];
     place[..2].copy_from_slice(&[first, second]);
     place[2..].copy_from_slice(&litres.to_le_bytes()[..P - 2]);
-    put_bare(store, count + 1);
+    put_bare::<S>(store, count + 1);
     Ok(0)
 }
 
@@ -226,7 +268,7 @@ pub fn propose(store: &mut [u8], table: &[u8], plan: &[u8]) -> i64 {
 
 fn try_propose<const P: usize, const S: usize>(store: &mut [u8], table: &[u8], plan: &[u8]) -> Result<i64, i64> {
     let held = held::<P, S>(store, table)?;
-    plan_refusal::<P, S>(held.sites.iter(), held.listed, plan).map_err(|row| -row)?;
+    plan_refusal::<P, S>(held.sites.iter(), held.listed, held.roll, plan).map_err(|row| -row)?;
     let grouped = usize::from(plan[2]);
     let (groups, shares) = plan[5..].split_at(10 * grouped);
     store[HELD..GROUPED].copy_from_slice(&1u64.to_le_bytes());
@@ -237,7 +279,7 @@ fn try_propose<const P: usize, const S: usize>(store: &mut [u8], table: &[u8], p
     }
     rest.fill(0);
     let shares = records::<S>(shares);
-    let (front, rest) = store[SHARES..].split_at_mut(S * shares.len());
+    let (front, rest) = store[SHARES..shares_end(S)].split_at_mut(S * shares.len());
     for (share, (_, r)) in front.chunks_exact_mut(S).zip(shares) {
         share.copy_from_slice(r);
     }
@@ -320,7 +362,7 @@ fn try_at_least<const P: usize, const S: usize>(store: &[u8], table: &[u8], mark
     let mut depots = 0;
     for (r, w) in plan.groups.iter().zip(litres) {
         let set = u64::from_le_bytes(*r);
-        if w < u64::from(mark) * u64::from(set.count_ones()) {
+        if w < u64::from(mark) * plan.crews(set) {
             break;
         }
         depots |= set;
@@ -363,16 +405,21 @@ pub fn list(store: &[u8], table: &[u8], buffer: &mut [u8]) -> i64 {
 
 fn try_list<const P: usize, const S: usize>(store: &[u8], table: &[u8], buffer: &mut [u8]) -> Result<i64, i64> {
     let held = held::<P, S>(store, table)?;
-    let length = 4 + (P + 2) * held.sites.len();
+    let end = 4 + (P + 2) * held.sites.len();
+    let length = end + if held.roll.is_some() { ROLL_BYTES } else { 0 };
     if buffer.len() < length {
         return Err(-20);
     }
-    let (head, rest) = buffer.split_at_mut(4);
+    let (head, rest) = buffer[..length].split_at_mut(4);
     head[..2].copy_from_slice(&edition(P).list);
     head[2..].copy_from_slice(&(held.sites.len() as u16).to_le_bytes());
     for (r, site) in rest.chunks_exact_mut(P + 2).zip(held.sites) {
         r[..2].copy_from_slice(&edition(P).site);
         r[2..].copy_from_slice(site);
+    }
+    if let Some(roll) = held.roll {
+        buffer[end..end + 2].copy_from_slice(&ROLL_MARK);
+        buffer[end + 2..length].copy_from_slice(roll);
     }
     Ok(length as i64)
 }

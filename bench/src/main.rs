@@ -15,7 +15,7 @@ use std::process::{exit, Command};
 use std::time::Instant;
 
 use engine_tests::families::{Extent, FAMILIES};
-use engine_tests::records::{list_bytes, listed, Edition, EDITIONS, ONE};
+use engine_tests::records::{list_bytes, listed, Edition, List, EDITIONS, ONE};
 use engine_tests::rng::Rng;
 use sulgheti::ffi;
 
@@ -51,12 +51,13 @@ fn main() {
         }
     }
     let inputs: Vec<Input> = inputs();
-    for edition in editions {
-        let chosen: Vec<&Input> = inputs.iter().filter(|i| i.edition == edition && i.name.contains(&only)).collect();
+    for (edition, rolled) in editions.into_iter().flat_map(|e| [false, true].map(|rolled| (e, rolled))) {
+        let of = |input: &&Input| (input.edition, input.rolled) == (edition, rolled) && input.name.contains(&only);
+        let chosen: Vec<&Input> = inputs.iter().filter(of).collect();
         if chosen.is_empty() {
             continue;
         }
-        println!("edition {}", edition.number);
+        println!("edition {}{}", edition.number, if rolled { ", with a roll" } else { "" });
         if desk {
             store::measure(edition, &chosen, rounds);
         } else if instructions {
@@ -116,6 +117,7 @@ fn summary(ratios: &[f64]) -> String {
 /// A largest list and a plan of it.
 struct Input {
     edition: Edition,
+    rolled: bool,
     name: String,
     number: usize,
     sites: usize,
@@ -126,24 +128,28 @@ struct Input {
 }
 
 /// The lists, the same bytes in every run, with plans of the hand-written Make: in edition 1 with litres to 3 and to
-/// 65,535, in edition 2 to 4,294,967,295.
+/// 65,535, in edition 2 to 4,294,967,295, without a roll and with one of 1 to 9 crews.
 fn inputs() -> Vec<Input> {
     let mut inputs: Vec<Input> = Vec::new();
     for edition in EDITIONS {
+        let most = edition.most();
+        let kinds = if edition == ONE { [(3, false), (most, false)] } else { [(most, false), (most, true)] };
         for (name, family) in FAMILIES {
-            for litres in [3, edition.most()].into_iter().skip(edition.number - 1) {
+            for (litres, rolled) in kinds {
                 let sites = family(&mut Rng::new(1), Extent { edition, sites: 512, depots: 64, litres });
-                let list = list_bytes(edition, &sites);
+                let of = List { sites, roll: rolled.then(|| std::array::from_fn(|d| 1 + (5 * d % 9) as u8)) };
+                let list = list_bytes(edition, &of);
                 if inputs.iter().any(|i| i.list == list) {
                     continue;
                 }
                 let plan = hand_made(&list);
                 inputs.push(Input {
                     edition,
-                    name: format!("{name}, to {}", sites.iter().map(|s| s.litres).max().unwrap_or(0)),
+                    rolled,
+                    name: format!("{name}, to {}", of.iter().map(|s| s.litres).max().unwrap_or(0)),
                     number: inputs.len(),
-                    sites: sites.len(),
-                    depots: listed(&sites).count_ones(),
+                    sites: of.len(),
+                    depots: listed(&of).count_ones(),
                     groups: usize::from(plan[2]),
                     list,
                     plan,

@@ -3,9 +3,10 @@
 use std::hint::black_box;
 use std::time::Instant;
 
-use engine_tests::damage::{reordered, spoil, Base};
-use engine_tests::families::{scattered, Extent, FAMILIES};
+use engine_tests::damage::{list_rows, reordered, rows, spoil, Base};
+use engine_tests::families::{rolled, scattered, Extent, FAMILIES};
 use engine_tests::records::{list_bytes, listed, members, number, plan_bytes, Edition, Plan, Site, ONE};
+use engine_tests::reference::read_list;
 use engine_tests::rng::Rng;
 use sulgheti::{ffi, PLAN2_MAX};
 
@@ -147,14 +148,12 @@ fn lines(input: &Input) -> Vec<Line> {
     let full = holding(e, table, list, Some(plan));
     let planless = holding(e, table, list, None);
     // without its last site
-    let (mut shorter, last) = {
-        let (front, last) = list.split_at(list.len() - e.site_bytes);
-        (front.to_vec(), last)
-    };
-    shorter[2..4].copy_from_slice(&(input.sites as u16 - 1).to_le_bytes());
+    let mut shorter = read_list(e, list).expect("a list that reads");
+    let depots = members(listed(&shorter));
+    let last = shorter.sites.pop().expect("a site");
+    let shorter = list_bytes(e, &shorter);
     let room = holding(e, table, &shorter, Some(&hand_made(&shorter)));
-    let depots = members(list[4..].chunks(e.site_bytes).fold(0, |set, r| set | 1 << r[2] | 1 << r[3]));
-    let (list_room, plan_room) = (e.list_length(512), e.plan_length(64, 512));
+    let (list_room, plan_room) = (e.longest_list(), e.plan_length(64, 512));
     let site = |i: usize| i * input.sites / DESKS;
     let depot = |i: usize| depots[i * depots.len() / DESKS] as u8;
     // W/q of a depot, rounded down: its group and all before it are read
@@ -173,7 +172,7 @@ fn lines(input: &Input) -> Vec<Line> {
         line("fresh", &full, true, &|_| Call::Fresh),
         line("load", &full, true, &|_| Call::Load(list.clone())),
         line("change", &full, false, &|i| Call::Change(site(i), 1 + i as u32)),
-        line("add", &room, false, &|_| Call::Add(last[2], last[3], number(&last[4..]) as u32)),
+        line("add", &room, false, &|_| Call::Add(last.first, last.second, last.litres)),
         line("propose, a plan held", &full, true, &|_| Call::Propose(plan.clone())),
         line("propose, none held", &planless, false, &|_| Call::Propose(plan.clone())),
         line("share", &full, true, &|i| Call::Share(site(i))),
@@ -261,12 +260,12 @@ fn compare(edition: Edition, inputs: &[&Input]) {
         }
     }
     let mut rng = Rng::new(1);
-    let (mut calls, mut granted, mut refused) = (0, 0, [0; 21]);
+    let (mut calls, mut granted, mut refused) = (0, 0, [0; 24]);
     for _ in 0..CASES {
         let base = random_base(&mut rng, edition);
-        let (list, plan) = (list_bytes(edition, &base.sites), plan_bytes(edition, &base.plan));
+        let (list, plan) = (list_bytes(edition, &base.list), plan_bytes(edition, &base.plan));
         let place = edition.place_bytes();
-        let bytes = place * (base.sites.len() + *rng.pick(&[0, 1, 2, 600])) + rng.below(place);
+        let bytes = place * (base.list.len() + *rng.pick(&[0, 1, 2, 600])) + rng.below(place);
         let mut desk = holding(edition, bytes, &list, rng.percent(80).then_some(&plan));
         if rng.percent(60) {
             for _ in 0..rng.from_to(1, 2) {
@@ -287,7 +286,8 @@ fn compare(edition: Edition, inputs: &[&Input]) {
             }
         }
     }
-    let never: Vec<usize> = (0..refused.len()).filter(|&row| refused[row] == 0).collect();
+    let mut never = [vec![0, 17, 18, 19, 20], rows(edition)].concat();
+    never.retain(|&row| refused[usize::from(row)] == 0);
     assert!(never.is_empty() && granted > 0, "rows never met: {never:?}");
     eprintln!("engine and hand agree on {calls} calls: {granted} granted, refused by row {refused:?}");
 }
@@ -299,12 +299,13 @@ fn random_base(rng: &mut Rng, edition: Edition) -> Base {
     let family = rng.pick(&FAMILIES).1;
     let sites = family(rng, e);
     let sites: Vec<Site> = if rng.percent(50) { scattered(rng, &sites) } else { sites };
-    let bytes = hand_made(&list_bytes(edition, &sites));
+    let list = rolled(rng, edition, sites);
+    let bytes = hand_made(&list_bytes(edition, &list));
     let grouped = usize::from(bytes[2]);
     let (front, back) = bytes[5..].split_at(10 * grouped);
     let groups = front.chunks(10).map(|r| number(&r[2..])).collect();
     let shares = back.chunks(edition.share_bytes).map(|r| number(&r[2..])).collect();
-    Base { edition, sites, plan: Plan { groups, shares } }
+    Base { edition, list, plan: Plan { groups, shares } }
 }
 
 /// Changes the figures of the store, a place, or any bytes; never the store's length.
@@ -315,7 +316,7 @@ fn damage(rng: &mut Rng, desk: &mut Desk) {
     let count = u64::from(desk.store[0]) | u64::from(desk.store[1]) << 8;
     let grouped = u64::from(desk.store[16]).clamp(1, 64) as usize;
     let near = (count as usize).clamp(1, 512);
-    match rng.below(10) {
+    match rng.below(if e.has_rolls() { 12 } else { 10 }) {
         0 => {
             let figure = *rng.pick(&[0, 1, count.wrapping_sub(1), count + 1, places, places + 1, 512, 513, 1 << 32]);
             put(&mut desk.store, 0, &figure.to_le_bytes());
@@ -351,6 +352,11 @@ fn damage(rng: &mut Rng, desk: &mut Desk) {
             desk.table.truncate(length - rng.below(2 * place + 1).min(length));
         }
         8 if rng.percent(20) => desk.store.iter_mut().for_each(|b| *b = rng.byte()),
+        10 => put(&mut desk.store, e.store_roll(), &rng.pick(&[0u64, 1, 1, 2, 1 << 40]).to_le_bytes()),
+        11 => {
+            let at = e.store_roll() + 8 + rng.below(64);
+            desk.store[at] = *rng.pick(&[0, 1, 9, 10, 255]);
+        }
         _ => {
             let at = rng.below(desk.store.len());
             desk.store[at] ^= 1 << rng.below(8);
@@ -359,8 +365,8 @@ fn damage(rng: &mut Rng, desk: &mut Desk) {
 }
 
 fn random_call(rng: &mut Rng, base: &Base) -> Call {
-    let near = base.sites.len() + 2;
-    let named = members(listed(&base.sites));
+    let near = base.list.len() + 2;
+    let named = members(listed(&base.list));
     let depot = |rng: &mut Rng| match rng.below(20) {
         0 => rng.byte(),
         1 => rng.below(64) as u8,
@@ -377,19 +383,19 @@ fn random_call(rng: &mut Rng, base: &Base) -> Call {
         }
         let k = rng.below(groups.len());
         let place = |depot: u8| groups.iter().position(|g| g >> depot & 1 == 1);
-        let carried = base.sites.iter().filter(|s| place(s.first).max(place(s.second)) == Some(k));
+        let carried = base.list.iter().filter(|s| place(s.first).max(place(s.second)) == Some(k));
         let w: u64 = carried.map(|s| u64::from(s.litres)).sum();
-        let q = u64::from(groups[k].count_ones());
+        let q = base.list.size(groups[k]);
         let near = *rng.pick(&[w / q, w.div_ceil(q), (w / q).saturating_sub(1), w / q + 1, 65_536 + w / q]);
         u32::try_from(near).unwrap_or(u32::MAX)
     };
     let e = base.edition;
-    let (mut list, mut plan) = (list_bytes(e, &base.sites), plan_bytes(e, &base.plan));
+    let (mut list, mut plan) = (list_bytes(e, &base.list), plan_bytes(e, &base.plan));
     match rng.below(15) {
         0 if rng.percent(20) => Call::Fresh,
         0 | 1 => {
             if rng.percent(70) {
-                let row = 1 + rng.below(6) as u8;
+                let row = *rng.pick(&list_rows(e));
                 spoil(rng, row, base, &mut list, &mut plan);
             }
             Call::Load(list)

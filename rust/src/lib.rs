@@ -1,11 +1,11 @@
 //! Safe calls of the proved engine for fair-load plans.
 //!
-//! A list and a plan are bytes as `include/sulgheti.h` lays them out, in edition 1 or 2; it says too what W, q, s and
-//! w x q are. [`check`] and [`make`] take either edition; [`upgrade_list`], [`upgrade_plan`], [`downgrade_list`] and
-//! [`downgrade_plan`] turn one into the other. The engine keeps nothing between calls and allocates nothing;
-//! a [`Store`] (edition 1) or a [`Store2`] (edition 2) owns its bytes and its table. A thread with 128 KB of stack can
-//! make every call. `libengine.a` and `libdesk.a`, for x86-64 Linux, are looked for in the folder that `SULGHETI_LIB`
-//! names, or in the repository's `target/staticlib`.
+//! A list and a plan are bytes as `include/sulgheti.h` lays them out, in edition 1 or 2, a list of edition 2 with a roll
+//! of crews or without one; it says too what W, q, s and w x q are. [`check`] and [`make`] take either edition;
+//! [`upgrade_list`], [`upgrade_plan`], [`downgrade_list`] and [`downgrade_plan`] turn one into the other. The engine keeps
+//! nothing between calls and allocates nothing; a [`Store`] (edition 1) or a [`Store2`] (edition 2) owns its bytes and its
+//! table. A thread with 128 KB of stack can make every call. `libengine.a` and `libdesk.a`, for x86-64 Linux, are looked
+//! for in the folder that `SULGHETI_LIB` names, or in the repository's `target/staticlib`.
 //!
 //! ```
 //! // One site of 10 litres that depots 0 and 1 supply.
@@ -72,6 +72,34 @@
 //! assert_eq!(sulgheti::Store::new(100).load(&file[..20]), Err(sulgheti::Row(1)));
 //! ```
 //!
+//! A list of edition 2 may end in a roll, which has the crews of each depot; a group's q is its crews added up:
+//!
+//! ```
+//! // One site of 12 litres; depot 0 has three crews and depot 1 one.
+//! let mut list = b"L2\x01\x00S2\x00\x01\x0C\x00\x00\x00DR".to_vec();
+//! list.extend([3, 1]);
+//! list.extend([0; 62]);
+//! let mut plan = [0; sulgheti::PLAN2_MAX];
+//! let n = sulgheti::make(&list, &mut plan).unwrap();
+//!
+//! let mut store = sulgheti::Store2::new(100);
+//! store.load(&list).unwrap();
+//! store.propose(&plan[..n]).unwrap();
+//! // Depot 0 brings 36 of 48 quarters of a litre: 3 litres for each crew.
+//! assert_eq!(store.share(0), Ok((36, 48)));
+//! assert_eq!(store.depot(0), Ok((12, 4)));
+//! assert_eq!(store.at_least(3), Ok(0b11));
+//! // Depot 2 has no crew. The store keeps the roll, and writes it out with the list.
+//! assert_eq!(store.add(1, 2, 5), Err(sulgheti::Row(23)));
+//! let mut file = [0; sulgheti::LIST2_MAX];
+//! assert_eq!(store.list(&mut file), Ok(78));
+//! assert_eq!(file[..78], list);
+//! // More than 9 crews are refused. Edition 1 has no rolls.
+//! list[14] = 10;
+//! assert_eq!(store.load(&list), Err(sulgheti::Row(22)));
+//! assert_eq!(sulgheti::downgrade_list(&file[..78], &mut [0; 10]), Err(sulgheti::Row(21)));
+//! ```
+//!
 //! A list and its plan go from one edition to the other, with the same figures in the same order, and back:
 //!
 //! ```
@@ -106,9 +134,9 @@ pub const LIST_MAX: usize = 4 + 6 * 512;
 /// plan of edition 1, nor for a list of it.
 pub const PLAN_MAX: usize = 5 + 10 * 64 + 6 * 512;
 
-/// The longest list of edition 2 in bytes. A buffer of this length is never too short for the list that a [`Store2`]
-/// holds, nor for one of edition 1.
-pub const LIST2_MAX: usize = 4 + 8 * 512;
+/// The longest list of edition 2 in bytes: 512 sites and a roll. A buffer of this length is never too short for the list
+/// that a [`Store2`] holds, nor for one of edition 1.
+pub const LIST2_MAX: usize = 4 + 8 * 512 + 66;
 
 /// The longest plan of edition 2 in bytes. A buffer of this length is never too short for a plan or a list of either
 /// edition.
@@ -121,7 +149,7 @@ pub const STORE_BYTES: usize = 24 + 8 * 64 + 4 * 512;
 pub const PLACE_BYTES: usize = 4;
 
 /// The bytes of a store of edition 2: the library's own and no file format; a later version may have more.
-pub const STORE2_BYTES: usize = 24 + 8 * 64 + 8 * 512;
+pub const STORE2_BYTES: usize = 24 + 8 * 64 + 8 * 512 + 8 + 64;
 
 /// The bytes of a place of edition 2's table.
 pub const PLACE2_BYTES: usize = 6;
@@ -279,7 +307,8 @@ pub mod ffi {
     }
 }
 
-/// Whether the plan is true of the list, both in edition 1 or both in edition 2. Refused by rows 1 to 16.
+/// Whether the plan is true of the list, both in edition 1 or both in edition 2. Refused by rows 1 to 16, and between rows
+/// 6 and 7 by rows 22 and 23 of a roll.
 pub fn check(list: &[u8], plan: &[u8]) -> Result<(), Row> {
     // SAFETY: both slices are valid for their lengths, and the function writes nothing.
     let answer = unsafe { ffi::sulgheti_check(list.as_ptr(), list.len(), plan.as_ptr(), plan.len()) };
@@ -287,7 +316,7 @@ pub fn check(list: &[u8], plan: &[u8]) -> Result<(), Row> {
 }
 
 /// Writes a plan that passes, in the list's edition, to the front of `out` and answers its length; the bytes behind it
-/// are unchanged. Refused by rows 1 to 6 and 20, and then all of `out` is unchanged.
+/// are unchanged. Refused by rows 1 to 6, 22, 23 and 20, and then all of `out` is unchanged.
 pub fn make(list: &[u8], out: &mut [u8]) -> Result<usize, Row> {
     // SAFETY: both slices are valid for their lengths, and `out` overlaps nothing.
     let answer = unsafe { ffi::sulgheti_make(list.as_ptr(), list.len(), out.as_mut_ptr(), out.len()) };
@@ -308,8 +337,8 @@ pub fn upgrade_list(list: &[u8], out: &mut [u8]) -> Result<usize, Row> {
     taken(unsafe { ffi::sulgheti_upgrade_list(list.as_ptr(), list.len(), out.as_mut_ptr(), out.len()) })
 }
 
-/// Writes a list of edition 2 in edition 1, as [`upgrade_list`] does the other way. Refused by rows 1 to 6, 21 and 20:
-/// by row 1 a list of edition 1, by row 21 litres that edition 1 does not have.
+/// Writes a list of edition 2 in edition 1, as [`upgrade_list`] does the other way. Refused by rows 1 to 6, 22, 23, 21 and
+/// 20: by row 1 a list of edition 1, by row 21 litres that edition 1 does not have, and a roll.
 ///
 /// ```
 /// let mut out = [0xA5; 11];
@@ -342,8 +371,8 @@ pub fn upgrade_plan(list: &[u8], plan: &[u8], list_out: &mut [u8], plan_out: &mu
 }
 
 /// Writes a list of edition 2 and a plan that is true of it in edition 1, as [`upgrade_plan`] does the other way. Refused
-/// by rows 1 to 16 and 20, what is of edition 1 by row 1 or 7; and by row 21, before the plan is read, where a site's
-/// litres are outside 1 to 65,535.
+/// by rows 1 to 16, 22, 23 and 20, what is of edition 1 by row 1 or 7; and by row 21, before the plan is read, where a
+/// site's litres are outside 1 to 65,535 or the list has a roll.
 ///
 /// ```
 /// let list2 = b"L2\x01\x00S2\x00\x01\x0A\x00\x00\x00";
@@ -491,7 +520,8 @@ impl<E: Edition> StoreOf<E> {
         (store.as_mut_ptr(), store.len(), self.table.as_mut_ptr(), self.table.len())
     }
 
-    /// The list becomes the store's, and no plan is held. Refused by rows 1 to 6.
+    /// The list becomes the store's, in edition 2 with its roll or without one, and no plan is held. Refused by rows 1 to 6,
+    /// 22 and 23.
     pub fn load(&mut self, list: &[u8]) -> Result<(), Row> {
         let (store, n, table, m) = self.parts_mut();
         // SAFETY: here and below, all parts are valid for their lengths, what is written is borrowed for writing, and it
@@ -506,7 +536,8 @@ impl<E: Edition> StoreOf<E> {
         taken(unsafe { E::CHANGE(store, n, table, m, site, litres) }).map(|_| ())
     }
 
-    /// A site joins the end, and no plan is held. Refused by rows 0, 2, 5 and 6.
+    /// A site joins the end, and no plan is held. Refused by rows 0, 2, 5 and 6, and by row 23 where there is a roll and
+    /// the site names a depot without crews.
     pub fn add(&mut self, first: u8, second: u8, litres: E::Litres) -> Result<(), Row> {
         let (store, n, table, m) = self.parts_mut();
         // SAFETY: as above.
@@ -529,7 +560,7 @@ impl<E: Edition> StoreOf<E> {
         Ok((share, whole))
     }
 
-    /// A depot's W and q. Refused by rows 0, 17 and 19.
+    /// W and q of a depot's group; q is its crews, one for each depot without a roll. Refused by rows 0, 17 and 19.
     pub fn depot(&self, depot: u8) -> Result<(u64, u64), Row> {
         let (store, n, table, m) = self.parts();
         let (mut litres, mut size) = (0, 0);
@@ -554,9 +585,9 @@ impl<E: Edition> StoreOf<E> {
         taken(unsafe { ffi::sulgheti_written(store, n, table, m, buffer.as_mut_ptr(), buffer.len()) })
     }
 
-    /// The listed depots whose W/q is at least so many litres (W at least litres x q), as a set: bit n stands for depot
-    /// n. 0 litres give all listed depots. Refused by rows 0 and 17. On foreign bytes whose groups do not fall: the depots
-    /// of the groups before the first below the mark.
+    /// The listed depots whose W/q, litres per crew, is at least so many litres (W at least litres x q), as a set: bit n
+    /// stands for depot n. 0 litres give all listed depots. Refused by rows 0 and 17. On foreign bytes whose groups do not
+    /// fall: the depots of the groups before the first below the mark.
     pub fn at_least(&self, litres: u32) -> Result<u64, Row> {
         let (store, n, table, m) = self.parts();
         let mut depots = 0;
@@ -565,8 +596,8 @@ impl<E: Edition> StoreOf<E> {
         Ok(depots)
     }
 
-    /// The list held is written to the front of `buffer`; answers its length. No plan need be held. Refused by rows 0
-    /// and 20.
+    /// The list held is written to the front of `buffer`, with its roll if it has one; answers its length. No plan need be
+    /// held. Refused by rows 0 and 20.
     ///
     /// ```
     /// let mut store = sulgheti::Store::new(2);
@@ -591,10 +622,10 @@ impl<E: Edition> StoreOf<E> {
 
 impl Store {
     /// The store goes over to edition 2 and a new table of so many places, all zero, and stays as it is itself. The sites,
-    /// the plan held and the lack of one carry over: each question to the new store gets the figures that it got from this
-    /// one, and [`list`](StoreOf::list) and [`written`](StoreOf::written) write in edition 2, the same figures in the longer
-    /// records: of a store that its own calls alone wrote, what [`upgrade_list`] and [`upgrade_plan`] make of what they write
-    /// here. Refused by rows 0 and 2, by row 2 where there are fewer places than sites.
+    /// the plan held and the lack of one carry over, and the new store has no roll: each question to it gets the figures
+    /// that it got from this one, and [`list`](StoreOf::list) and [`written`](StoreOf::written) write in edition 2, the same
+    /// figures in the longer records: of a store that its own calls alone wrote, what [`upgrade_list`] and [`upgrade_plan`]
+    /// make of what they write here. Refused by rows 0 and 2, by row 2 where there are fewer places than sites.
     ///
     /// ```
     /// let mut store = sulgheti::Store::new(2);
@@ -639,12 +670,12 @@ fn taken(answer: i64) -> Result<usize, Row> {
 pub struct Row(pub u8);
 
 /// What each row means and what to do about it, by number, in the words of README.md.
-const TEXTS: [(&str, &str); 22] = [
+const TEXTS: [(&str, &str); 24] = [
     ("the desk or its table does not hold what a desk can hold", "the memory lent to the desk was overwritten: begin with a fresh desk and load the list again"),
     ("the list has under 4 bytes or does not begin with 4C 53 or, in edition 2, 4C 32; or it is loaded and of the other edition than the desk, or converted and already of the edition asked for", "is this a list at all? give its bytes from the first on; load it into a desk of its own edition; upgrade edition 1, downgrade edition 2"),
     ("the list has more than 512 sites, or more than the desk's table has places; or a site is added and there is no place left; or a desk goes over to a table with fewer places than it has sites", "split the list, or lend a longer table"),
-    ("the list's length is not 4 + 6 x sites or, in edition 2, 4 + 8 x sites", "it was cut off, something follows it, or the count is wrong"),
-    ("a site does not begin with 53 54 or, in edition 2, 53 32", "a record is damaged or has not 6 bytes (edition 2: 8): write the list again"),
+    ("the list's length is not 4 + 6 x sites or, in edition 2, 4 + 8 x sites, and 66 more with a roll", "it was cut off, something follows it, or the count is wrong"),
+    ("a site does not begin with 53 54 or, in edition 2, 53 32, or a roll not with 44 52", "a record is damaged or has not 6 bytes (edition 2: 8, a roll 66): write the list again"),
     ("a site names a depot above 63", "number the depots from 0 to 63"),
     ("a site has 0 litres", "leave the site out, or give its litres"),
     ("the plan has under 5 bytes or does not begin with 50 4C or, for a list of edition 2, 50 32", "is this a plan at all, and of the list's edition? give its bytes from the first on"),
@@ -654,14 +685,16 @@ const TEXTS: [(&str, &str); 22] = [
     ("a group does not begin with 47 52, or a share not with 53 48 or, in edition 2, 53 33", "a record is damaged: write the plan again"),
     ("a group is empty or meets an earlier one", "put each depot into one group, and leave empty groups out"),
     ("the groups together are not the listed depots", "group every depot that a site names, and no other"),
-    ("a share is above w x q, an own site is not whole, or a depot of an earlier group has a share", "give shares in q-ths of a litre, q the size of the later of the site's two groups, and all of the site to the depot in that group"),
-    ("a depot's shares do not add up to its group's litres", "level the shares within the group, or make the plan anew"),
-    ("litres per depot do not fall strictly from group to group", "the groups are wrong: make the plan anew"),
+    ("a share is above w x q, an own site is not whole, or a depot of an earlier group has a share", "give shares in q-ths of a litre, q the crews of the later of the site's two groups, and all of the site to the depot in that group"),
+    ("a depot's shares do not add up to its crews times its group's litres", "level the shares within the group, or make the plan anew"),
+    ("litres per crew do not fall strictly from group to group", "the groups are wrong: make the plan anew"),
     ("no plan is held", "propose a plan that passes first; a load, a change or an added site drops the plan held"),
     ("the site number is not on the desk", "sites are counted from 0: load or add the site first"),
     ("no site names the depot", "ask for a listed depot"),
-    ("a buffer is shorter than the plan or the list that is written into it", "lend 5 + 10 x groups + 6 x sites bytes for a plan, 4 + 6 x sites for a list (written in edition 2: 10 and 8 x sites); 3,717 always suffice (edition 2: 5,765)"),
-    ("a site's litres are outside 1 to 65,535, and the list is to go back to edition 1", "edition 1 has no such litres: keep list and plan in edition 2"),
+    ("a buffer is shorter than the plan or the list that is written into it", "lend 5 + 10 x groups + 6 x sites bytes for a plan, 4 + 6 x sites for a list (written in edition 2: 10 and 8 x sites, 66 more with a roll); 3,717 always suffice (edition 2: 5,765)"),
+    ("a site's litres are outside 1 to 65,535 or the list has a roll, and the list is to go back to edition 1", "edition 1 has no such litres and no rolls: keep list and plan in edition 2"),
+    ("the roll has more than 9 crews for a depot", "give each depot 0 to 9 crews"),
+    ("a site names a depot for which the roll has no crew", "give the depot its crews in the roll, or name another"),
 ];
 
 impl Row {
@@ -719,7 +752,7 @@ mod tests {
     #[test]
     fn words_are_those_of_the_readme() {
         let readme = include_str!("../../README.md").replace('×', "x");
-        for n in 0..=21 {
+        for n in 0..=23 {
             let line = format!("\n| {n} | {} | {} |\n", Row(n).meaning(), Row(n).advice());
             assert!(readme.contains(&line), "{line}");
         }

@@ -61,7 +61,17 @@ static int t(void) {
     if (sulgheti_downgrade_plan(big, sizeof big, plan1, sizeof plan1, list, 0, plan, 0, &length) != -21) return 23;
     big[2] = 2;
     if (sulgheti_downgrade_list(big, sizeof big, list, sizeof list) != -3) return 24;
-    return kept() ? 0 : 25;
+    /* a roll of ones, which edition 1 does not have; a depot without crews comes before that. Nor does upgrade take one behind a list of edition 1 */
+    uint8_t rolled[sizeof list2 + 66] = {0};
+    memcpy(rolled, list2, sizeof list2);
+    memcpy(rolled + sizeof list2, "DR\1\1", 4);
+    if (sulgheti_check(rolled, sizeof rolled, plan2, sizeof plan2) != 0 || sulgheti_downgrade_list(rolled, sizeof rolled, list, sizeof list) != -21) return 25;
+    if (sulgheti_downgrade_plan(rolled, sizeof rolled, plan1, sizeof plan1, list, 0, plan, 0, &length) != -21) return 26;
+    rolled[sizeof list2 + 3] = 0;
+    if (sulgheti_downgrade_list(rolled, sizeof rolled, list, sizeof list) != -23) return 27;
+    memcpy(rolled, list1, sizeof list1);
+    if (sulgheti_upgrade_list(rolled, sizeof list1 + 66, list, sizeof list) != -3) return 28;
+    return kept() ? 0 : 29;
 }
 
 /* Whether both desks, of edition 1 and of edition 2, have the same s and w x q of both sites. */

@@ -1,5 +1,6 @@
 /* A desk with T: its list is written out, its plan is held, its figures are answered, and an added site drops it; the list goes into another desk and out again.
- * And a desk of edition 2 with a site of 70,000 litres, beside one of edition 1. And a desk of edition 1 that goes over to edition 2 with its plan. */
+ * And a desk of edition 2 with a site of 70,000 litres, beside one of edition 1. And a desk of edition 1 that goes over to edition 2 with its plan.
+ * And a desk with a roll: crews count, and it is kept and written out with the list. */
 #include <string.h>
 
 #include "sulgheti.h"
@@ -173,11 +174,62 @@ static int goes_over(void) {
     return memcmp(again, store, sizeof store) == 0 && table[2] == 11 ? 0 : 35;
 }
 
+/* A roll: three crews at depot 0, one at depot 1, nine at depot 5, which no site names. */
+static int crews(void) {
+    uint8_t list[12 + 66] = {0x4C, 0x32, 1, 0, 0x53, 0x32, 0, 1, 12, 0, 0, 0, 0x44, 0x52, 3, 1, 0, 0, 0, 9};
+    const uint8_t plan[] = {0x50, 0x32, 1, 1, 0, 0x47, 0x52, 3, 0, 0, 0, 0, 0, 0, 0, 0x53, 0x33, 36, 0, 0, 0, 0, 0, 0, 0};
+    uint8_t store[SULGHETI_STORE2_BYTES], table[3 * SULGHETI_PLACE2_BYTES], out[SULGHETI_LIST2_MAX];
+    uint64_t x = 0, y = 0, set = 99;
+    int64_t d = 1;
+    /* the plan that is made, into so many bytes; one byte fewer is too few */
+    if (sulgheti_make(list, sizeof list, out, sizeof plan) != (int64_t)sizeof plan || memcmp(out, plan, sizeof plan) != 0) return 1;
+    if (sulgheti_make(list, sizeof list, out, sizeof plan - 1) != -20 || sulgheti_check(list, sizeof list, plan, sizeof plan) != 0) return 2;
+    if (sulgheti_fresh2(store, sizeof store) != 0 || sulgheti_load(store, sizeof store, table, sizeof table, list, sizeof list) != 0) return 3;
+    if (sulgheti_propose(store, sizeof store, table, sizeof table, plan, sizeof plan) != 0) return 4;
+    if (sulgheti_depot(store, sizeof store, table, sizeof table, 0, &x, &y) != 0 || x != 12 || y != 4) return 5;
+    if (sulgheti_share(store, sizeof store, table, sizeof table, 0, &x, &y) != 0 || x != 36 || y != 48) return 6;
+    if (sulgheti_difference(store, sizeof store, table, sizeof table, 0, 1, &d, &y) != 0 || d != 0 || y != 16) return 7;
+    if (sulgheti_at_least(store, sizeof store, table, sizeof table, 3, &set) != 0 || set != 3) return 8;
+    if (sulgheti_at_least(store, sizeof store, table, sizeof table, 4, &set) != 0 || set != 0) return 9;
+    if (sulgheti_depot(store, sizeof store, table, sizeof table, 5, &x, &y) != -19) return 10;
+    /* a depot without crews; the plan is still held */
+    if (sulgheti_add2(store, sizeof store, table, sizeof table, 0, 2, 1) != -23 || sulgheti_add2(store, sizeof store, table, sizeof table, 2, 2, 0) != -6) return 11;
+    if (sulgheti_depot(store, sizeof store, table, sizeof table, 1, &x, &y) != 0 || x != 12 || y != 4) return 12;
+    /* the list written out has its roll; the sites alone are too few bytes */
+    memset(out, 0xA5, sizeof out);
+    if (sulgheti_list(store, sizeof store, table, sizeof table, out, 12) != -20 || out[0] != 0xA5) return 13;
+    if (sulgheti_list(store, sizeof store, table, sizeof table, out, sizeof out) != (int64_t)sizeof list) return 14;
+    if (memcmp(out, list, sizeof list) != 0 || out[sizeof list] != 0xA5) return 15;
+    /* a change and an added site keep it */
+    if (sulgheti_change2(store, sizeof store, table, sizeof table, 0, 13) != 0 || sulgheti_add2(store, sizeof store, table, sizeof table, 5, 0, 90) != 0) return 16;
+    if (sulgheti_list(store, sizeof store, table, sizeof table, out, sizeof out) != (int64_t)sizeof list + 8) return 17;
+    if (memcmp(out + 4, "S2\0\1\15\0\0\0S2\5\0\132\0\0\0", 16) != 0 || memcmp(out + 20, list + 12, 66) != 0) return 18;
+    /* rolls that are refused leave all as it was */
+    list[14] = 10;
+    if (sulgheti_load(store, sizeof store, table, sizeof table, list, sizeof list) != -22) return 19;
+    list[14] = 0;
+    if (sulgheti_load(store, sizeof store, table, sizeof table, list, sizeof list) != -23 || sulgheti_check(list, sizeof list, plan, sizeof plan) != -23) return 20;
+    if (sulgheti_list(store, sizeof store, table, sizeof table, out, 0) != -20 || store[SULGHETI_STORE2_BYTES - 64] != 3) return 21;
+    /* a list without one: the desk has none */
+    if (sulgheti_load(store, sizeof store, table, sizeof table, list, 12) != 0 || sulgheti_add2(store, sizeof store, table, sizeof table, 0, 2, 1) != 0) return 22;
+    if (sulgheti_list(store, sizeof store, table, sizeof table, out, sizeof out) != 20) return 23;
+    /* held bytes that say 2, or that have 10 crews, are no roll */
+    store[SULGHETI_STORE2_BYTES - 72] = 2;
+    if (sulgheti_list(store, sizeof store, table, sizeof table, out, sizeof out) != SULGHETI_CORRUPT) return 24;
+    store[SULGHETI_STORE2_BYTES - 72] = 1;
+    memset(store + SULGHETI_STORE2_BYTES - 64, 1, 64);
+    if (sulgheti_list(store, sizeof store, table, sizeof table, out, sizeof out) != 20 + 66) return 25;
+    store[SULGHETI_STORE2_BYTES - 1] = 10;
+    return sulgheti_list(store, sizeof store, table, sizeof table, out, sizeof out) == SULGHETI_CORRUPT ? 0 : 26;
+}
+
 int main(void) {
     const int failed = edition1();
     if (failed != 0) return failed;
     const int failed2 = edition2();
     if (failed2 != 0) return 100 + failed2;
     const int stayed = goes_over();
-    return stayed == 0 ? 0 : 200 + stayed;
+    if (stayed != 0) return 200 + stayed;
+    const int uncrewed = crews();
+    return uncrewed == 0 ? 0 : 150 + uncrewed;
 }

@@ -1,8 +1,8 @@
-/* Every exported call, at 512 sites, in either edition, and in edition 2 also with litres that edition 1 has, on a stack of the bytes that the
- * header states: valid calls, calls that each row refuses, and calls on a damaged desk. Each runs on a thread whose stack is memory of this program,
- * with pages below it that cannot be touched; what the stack has above the stated bytes is passed over before the call, so that a call that needs
- * more faults, and is named. Prints the most that each call was seen to write: its own stack alone where the program is linked with -z now, so that
- * nothing is looked up within a call. */
+/* Every exported call, at 512 sites, in either edition, and in edition 2 also with litres that edition 1 has and with a roll, on a stack of the bytes
+ * that the header states: valid calls, calls that each row refuses, and calls on a damaged desk. Each runs on a thread whose stack is memory of this
+ * program, with pages below it that cannot be touched; what the stack has above the stated bytes is passed over before the call, so that a call that
+ * needs more faults, and is named. Prints the most that each call was seen to write: its own stack alone where the program is linked with -z now, so
+ * that nothing is looked up within a call. */
 #define _GNU_SOURCE
 #include <alloca.h>
 #include <pthread.h>
@@ -73,19 +73,23 @@ static struct {
 };
 
 /* The editions: marks of list, site, plan and share, bytes of litres and of s, sizes; the most litres, and litres of 64 figures that fall
- * by a step, eight times the first of which is a mark that can be asked for. The last is edition 2 with litres that edition 1 has, so that its lists
- * can be downgraded. */
+ * by a step, eight times the first of which is a mark that can be asked for; the crews of each depot by a roll, or 0 for no roll. The last two are
+ * edition 2 with litres that edition 1 has, so that its lists can be downgraded, and with a roll. */
 static const struct edition {
     const char *list, *site, *plan, *share;
     unsigned litres, s;
     size_t store, place, plan_max;
     uint32_t most, top, step, spread;
-} editions[3] = {
-    {"LS", "ST", "PL", "SH", 2, 4, SULGHETI_STORE_BYTES, SULGHETI_PLACE_BYTES, SULGHETI_PLAN_MAX, 65535, 65535, 1000, 7919},
-    {"L2", "S2", "P2", "S3", 4, 8, SULGHETI_STORE2_BYTES, SULGHETI_PLACE2_BYTES, SULGHETI_PLAN2_MAX, 4294967295, 536870911, 8000000, 518998849},
-    {"L2", "S2", "P2", "S3", 4, 8, SULGHETI_STORE2_BYTES, SULGHETI_PLACE2_BYTES, SULGHETI_PLAN2_MAX, 65535, 65535, 1000, 7919},
+    uint8_t crews;
+} editions[4] = {
+    {"LS", "ST", "PL", "SH", 2, 4, SULGHETI_STORE_BYTES, SULGHETI_PLACE_BYTES, SULGHETI_PLAN_MAX, 65535, 65535, 1000, 7919, 0},
+    {"L2", "S2", "P2", "S3", 4, 8, SULGHETI_STORE2_BYTES, SULGHETI_PLACE2_BYTES, SULGHETI_PLAN2_MAX, 4294967295, 536870911, 8000000, 518998849, 0},
+    {"L2", "S2", "P2", "S3", 4, 8, SULGHETI_STORE2_BYTES, SULGHETI_PLACE2_BYTES, SULGHETI_PLAN2_MAX, 65535, 65535, 1000, 7919, 0},
+    {"L2", "S2", "P2", "S3", 4, 8, SULGHETI_STORE2_BYTES, SULGHETI_PLACE2_BYTES, SULGHETI_PLAN2_MAX, 4294967295, 536870911, 8000000, 518998849, 9},
 };
-/* Whether the calls are in edition 2, and whether edition 1 has all litres of the list. */
+/* Where the shares of a store begin. In edition 2 its roll stands behind them. */
+enum { SHARES = 24 + 8 * 64 };
+/* Whether the calls are in edition 2, and whether edition 1 has all litres of the list, and no roll is there. */
 static int two, fits;
 static const struct edition *e, *other;
 
@@ -158,7 +162,11 @@ static void write_list(int kind, unsigned n) {
         put(at + 4, kind == EQUAL ? e->most : kind == FALLING ? e->top - e->step * (i % 64) : kind == RING ? 10 : 1 + (uint64_t)i * e->spread % e->most, (int)e->litres);
     }
     list_len = 4 + (4 + e->litres) * n;
-    fits = kind == RING || e->most == editions[0].most;
+    fits = !e->crews && (kind == RING || e->most == editions[0].most);
+    if (!e->crews) return;
+    memcpy(list + list_len, "DR", 2);
+    memset(list + list_len + 2, e->crews, 64);
+    list_len += 66;
 }
 
 static void lists_refused(int row) {
@@ -254,7 +262,6 @@ static void converted(void) {
 
 /* From edition 1 the desk goes over, with the plan that it holds or without one, into 512 places; 511 are too few, and a new store has its length. */
 static void goes_over(void) {
-    enum { SETS = 24 + 8 * 64 };
     table2_len = 512 * SULGHETI_PLACE2_BYTES;
     if (two) {
         EXPECT(MIGRATE, SULGHETI_NO_STORE);
@@ -270,18 +277,19 @@ static void goes_over(void) {
     store2_len = SULGHETI_STORE2_BYTES;
     if (store2[0] != 0x77 || memcmp(store2, store2 + 1, store2_len - 1) != 0) exit(10);
     EXPECT(MIGRATE, 0);
-    if (memcmp(store2, store, SETS) != 0) exit(11);
+    if (memcmp(store2, store, SHARES) != 0) exit(11);
     for (unsigned i = 0; i < 512; i++) {
-        if (memcmp(store2 + SETS + 8 * i, store + SETS + 4 * i, 4) != 0 || memcmp(store2 + SETS + 8 * i + 4, "\0\0\0", 4) != 0) exit(12);
+        if (memcmp(store2 + SHARES + 8 * i, store + SHARES + 4 * i, 4) != 0 || memcmp(store2 + SHARES + 8 * i + 4, "\0\0\0", 4) != 0) exit(12);
         if (memcmp(table2 + SULGHETI_PLACE2_BYTES * i, table + SULGHETI_PLACE_BYTES * i, 4) != 0 || memcmp(table2 + SULGHETI_PLACE2_BYTES * i + 4, "\0", 2) != 0) exit(13);
     }
+    for (unsigned i = SHARES + 8 * 512; i < store2_len; i++) if (store2[i] != 0) exit(14);
 }
 
 static void edition(const struct edition *of) {
     e = of, two = of != editions, other = &editions[1 - two];
     plan_out_len = SULGHETI_PLAN2_MAX;
     store_len = e->store, table_len = 512 * e->place, out_len = e->plan_max;
-    const unsigned site_len = 4 + e->litres, share_len = 2 + e->s;
+    const unsigned site_len = 4 + e->litres, share_len = 2 + e->s, crews = e->crews ? e->crews : 1, roll_len = e->crews ? 66 : 0;
 
     for (int kind = 0; kind < LISTS; kind++) {
         /* a list, its plan made, checked, held, asked for and written out */
@@ -304,10 +312,10 @@ static void edition(const struct edition *of) {
             second = (uint8_t)(63 - first);
             EXPECT(SHARE, 0);
             EXPECT(DEPOT, 0);
-            if (kind == EQUAL && (x != (uint64_t)512 * e->most || y != 64)) exit(3);
+            if (kind == EQUAL && (x != (uint64_t)512 * e->most || y != 64 * crews)) exit(3);
             EXPECT(DIFFERENCE, 0);
             /* where the figures fall, the mark is the depot's own W / q; where they are equal, it is not above that of all depots */
-            mark = 8 * (e->top - e->step * first);
+            mark = 8 * (e->top - e->step * first) / crews;
             EXPECT(AT_LEAST, 0);
             if (kind == EQUAL && x != ~(uint64_t)0) exit(3);
             if (kind == FALLING && x != ((uint64_t)2 << first) - 1) exit(3);
@@ -338,6 +346,12 @@ static void edition(const struct edition *of) {
         memset(last + 4, 0, e->litres);
         lists_refused(6);
         memcpy(last + 4, litres_before, e->litres);
+        if (roll_len != 0) {
+            uint8_t *roll = last + site_len;
+            damaged(roll + 1, 'S', lists_refused, 4);
+            damaged(roll + 65, 10, lists_refused, 22);
+            damaged(roll + 65, 0, lists_refused, 23);
+        }
 
         /* each row of the plan that the list can have; the other edition's head */
         uint8_t *share_at = plan + plan_len - share_len;
@@ -368,12 +382,15 @@ static void edition(const struct edition *of) {
         site = 511, litres = 0;
         EXPECT_OWN(CHANGE, -6);
 
-        /* row 0: the count of sites, the groups, a share, a site of the table */
+        /* row 0: the count of sites, the groups, a share, a site of the table; whether there is a roll, its crews */
         damaged(store + 1, 3, desk_refused, SULGHETI_CORRUPT);
         damaged(store + 16, 65, desk_refused, SULGHETI_CORRUPT);
         damaged(store + 24, (uint8_t)(store[24] ^ 1), desk_refused, SULGHETI_CORRUPT);
-        damaged(store + e->store - 1, 0xFF, desk_refused, SULGHETI_CORRUPT);
+        damaged(store + SHARES + e->s * 512 - 1, 0xFF, desk_refused, SULGHETI_CORRUPT);
         damaged(table + e->place * 511, 64, desk_refused, SULGHETI_CORRUPT);
+        if (two) damaged(store + SHARES + e->s * 512, 2, desk_refused, SULGHETI_CORRUPT);
+        if (roll_len != 0) damaged(store + e->store - 1, 10, desk_refused, SULGHETI_CORRUPT);
+        if (roll_len != 0) damaged(store + e->store - 1, 0, desk_refused, SULGHETI_CORRUPT);
 
         /* a store of no edition's length, and of the other's */
         others_refused();
@@ -397,11 +414,14 @@ static void edition(const struct edition *of) {
         EXPECT_OWN(ADD, -6);
         litres = e->most;
         EXPECT_OWN(ADD, 0);
-        EXPECT(LIST, 4 + site_len * 512);
-        if (memcmp(out + 4, list + 4, list_len - 4) != 0 || memcmp(out + list_len, e->site, 2) != 0) exit(6);
+        EXPECT(LIST, 4 + site_len * 512 + roll_len);
+        if (memcmp(out + 4, list + 4, last - list - 4) != 0) exit(6);
+        const uint8_t *at = out + (last - list);
         uint8_t added[4];
         put(added, e->most, (int)e->litres);
-        if (memcmp(out + list_len + 2, "\77\0", 2) != 0 || memcmp(out + list_len + 4, added, e->litres) != 0) exit(6);
+        if (memcmp(at, e->site, 2) != 0 || memcmp(at + 2, "\77\0", 2) != 0 || memcmp(at + 4, added, e->litres) != 0) exit(6);
+        /* the roll behind it, where there is one */
+        if (memcmp(at + site_len, last, roll_len) != 0) exit(6);
     }
 
     /* row 16: depots 0 and the others in two groups, as heavy as each other */
@@ -414,7 +434,7 @@ static void edition(const struct edition *of) {
     put(plan + 17, ~(uint64_t)1, 8);
     for (unsigned i = 0; i < 512; i++) {
         memcpy(plan + 25 + share_len * i, e->share, 2);
-        put(plan + 27 + share_len * i, i % 64 == 0 ? e->most : (uint64_t)e->most * 63, (int)e->s);
+        put(plan + 27 + share_len * i, (uint64_t)e->most * (i % 64 == 0 ? 1 : 63) * crews, (int)e->s);
     }
     plan_len = 25 + share_len * 512;
     plans_refused(16);
@@ -427,7 +447,7 @@ int main(void) {
     struct sigaction action = {.sa_handler = faulted, .sa_flags = SA_ONSTACK};
     if (sigaction(SIGSEGV, &action, 0) != 0) return 2;
 
-    for (int of = 0; of < 3; of++) edition(&editions[of]);
+    for (int of = 0; of < 4; of++) edition(&editions[of]);
 
     printf("stack_t: bytes of stack written in edition 1 and in edition 2, of those stated:");
     for (int call = 0; call < CALLS; call++) printf(" %s %zu and %zu of %zu%c", calls[call].name, calls[call].seen[0], calls[call].seen[1], calls[call].stated, call + 1 < CALLS ? ',' : '\n');

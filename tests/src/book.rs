@@ -1,9 +1,9 @@
 //! The plain book of document 01: a list, a plan or none, and the rows in the paper's order; before them the
 //! store's length, which is no row. With document 02's question a, the depots at or over a mark, its call b, the list
-//! written out, its editions (c), and its step of a desk of edition 1 to edition 2 (e).
+//! written out, its editions (c), its step of a desk of edition 1 to edition 2 (e), and its rolls (g).
 
 use crate::decompose::by_cuts;
-use crate::records::{list_bytes, listed, number, plan_bytes, Edition, Plan, Site, EDITIONS, ONE, TWO};
+use crate::records::{list_bytes, listed, number, plan_bytes, Edition, List, Plan, Roll, Site, EDITIONS, ONE, TWO};
 use crate::reference::{self, Depots};
 
 /// Litres as a change or an added site is given them: 16 bits by the functions of edition 1, 32 by those of edition 2.
@@ -123,8 +123,11 @@ pub enum Told {
 pub struct Book {
     pub edition: Edition,
     pub places: usize,
-    pub list: Vec<Site>,
+    /// "Its list includes the roll, or the lack of one."
+    pub list: List,
     pub plan: Option<Plan>,
+    /// What stands in a store where crews would, if there is no roll. Nobody looks at it; a load clears it.
+    beside: Roll,
     /// The groups of the definition, worked out at most once for a list.
     groups: Option<Vec<u64>>,
     /// Figures go by the groups held, where the plan held may be none that passed.
@@ -133,16 +136,16 @@ pub struct Book {
 
 impl Book {
     pub fn new(edition: Edition, places: usize) -> Book {
-        Book { edition, places, list: Vec::new(), plan: None, groups: None, by_held: false }
+        Book { edition, places, list: List::default(), plan: None, beside: [0; 64], groups: None, by_held: false }
     }
 
     /// A book whose figures go by the groups of the plan that it holds, true or not.
-    pub fn holding(edition: Edition, places: usize, list: Vec<Site>, plan: Option<Plan>) -> Book {
+    pub fn holding(edition: Edition, places: usize, list: List, plan: Option<Plan>) -> Book {
         Book { list, plan, by_held: true, ..Book::new(edition, places) }
     }
 
-    fn listed(&mut self, list: Vec<Site>) {
-        *self = Book { list, ..Book::new(self.edition, self.places) };
+    fn listed(&mut self, list: List) {
+        *self = Book { list, beside: self.beside, ..Book::new(self.edition, self.places) };
     }
 
     fn definition(&mut self) -> &[u64] {
@@ -165,12 +168,13 @@ impl Book {
     /// W and q of the group at a place: the litres of the sites that it carries, and its size.
     fn group(&mut self, place: usize) -> (u64, u64) {
         let mut litres = 0;
-        for site in self.list.clone() {
+        for site in self.list.sites.clone() {
             if self.place(site.first).max(self.place(site.second)) == place {
                 litres += u64::from(site.litres);
             }
         }
-        (litres, u64::from(self.groups()[place].count_ones()))
+        let group = self.groups()[place];
+        (litres, self.list.size(group))
     }
 
     fn depot(&mut self, depot: u8) -> Result<(u64, u64), u8> {
@@ -205,6 +209,7 @@ impl Book {
             Call::Load(list) => {
                 let list = reference::read_list_into(self.edition, list, self.places)?;
                 self.listed(list);
+                self.beside = [0; 64];
                 Ok(Told::Done)
             }
             &Call::Change(site, litres) => {
@@ -228,8 +233,11 @@ impl Book {
                 if litres == 0 {
                     return Err(6);
                 }
-                let mut list = self.list.clone();
-                list.push(Site { first, second, litres });
+                let (mut list, site) = (self.list.clone(), Site { first, second, litres });
+                if list.roll.is_some_and(|roll| reference::without_crews(&roll, &site)) {
+                    return Err(23);
+                }
+                list.sites.push(site);
                 self.listed(list);
                 Ok(Told::Done)
             }
@@ -295,7 +303,8 @@ impl Book {
         Ok(Book { edition: TWO, places, ..self.clone() })
     }
 
-    /// The store as bytes: sites, whether a plan is held, groups, 64 sets, 512 shares; zero beyond what is held.
+    /// The store as bytes: sites, whether a plan is held, groups, 64 sets, 512 shares; zero beyond what is held. In edition
+    /// 2 whether there is a roll, and its crews.
     pub fn store(&self) -> Vec<u8> {
         let (groups, shares) = self.plan.as_ref().map_or((&[][..], &[][..]), |p| (&p.groups, &p.shares));
         let mut bytes = Vec::new();
@@ -305,14 +314,18 @@ impl Book {
         groups.iter().for_each(|g| bytes.extend(g.to_le_bytes()));
         bytes.resize(24 + 8 * 64, 0);
         shares.iter().for_each(|&s| bytes.extend(self.edition.s(s)));
-        bytes.resize(self.edition.store_bytes(), 0);
+        bytes.resize(self.edition.store_roll(), 0);
+        if self.edition.has_rolls() {
+            bytes.extend(u64::from(self.list.roll.is_some()).to_le_bytes());
+            bytes.extend(self.list.roll.unwrap_or(self.beside));
+        }
         bytes
     }
 
     /// The table after a call: the sites stand in front, the rest keeps its content.
     pub fn table(&self, before: &[u8]) -> Vec<u8> {
         let mut bytes = before.to_vec();
-        for (place, s) in bytes.chunks_mut(self.edition.place_bytes()).zip(&self.list) {
+        for (place, s) in bytes.chunks_mut(self.edition.place_bytes()).zip(&self.list.sites) {
             place[..2].copy_from_slice(&[s.first, s.second]);
             place[2..].copy_from_slice(&self.edition.litres(s.litres));
         }
@@ -328,7 +341,7 @@ fn depots(set: u64) -> Depots {
     std::array::from_fn(|d| set >> d & 1 == 1)
 }
 
-/// Every call, a fresh store and a load too, first looks which edition's store the bytes can be: 2,584 of them or 4,632.
+/// Every call, a fresh store and a load too, first looks which edition's store the bytes can be: 2,584 of them or 4,704.
 pub fn sized(store: &[u8]) -> Result<Edition, Refusal> {
     EDITIONS.into_iter().find(|e| store.len() == e.store_bytes()).ok_or(Refusal::NoStore)
 }
@@ -343,7 +356,8 @@ pub fn served(store: &[u8], call: &Call) -> Result<Edition, Refusal> {
 }
 
 /// The book that the bytes of a store and a table stand for; or no store; or row 0: "held site count above 512 or
-/// the table's places, a held site that rows 5 or 6 refuse, or a held plan that rows 8 or 12 to 14 refuse".
+/// the table's places, a held site that rows 5 or 6 refuse, or a held plan that rows 8 or 12 to 14 refuse", or "a held
+/// roll or site that rows 22 or 23 refuse".
 pub fn held(store: &[u8], table: &[u8]) -> Result<Book, Refusal> {
     let e = sized(store)?;
     let corrupt = Err(Refusal::Row(0));
@@ -354,12 +368,22 @@ pub fn held(store: &[u8], table: &[u8]) -> Result<Book, Refusal> {
     }
     let count = figure(0) as usize;
     let site = |p: &[u8]| Site { first: p[0], second: p[1], litres: number(&p[2..]) as u32 };
-    let list: Vec<Site> = table.chunks_exact(e.place_bytes()).take(count).map(site).collect();
-    if list.iter().any(|s| s.first > 63 || s.second > 63 || s.litres == 0) {
+    let sites: Vec<Site> = table.chunks_exact(e.place_bytes()).take(count).map(site).collect();
+    if sites.iter().any(|s| s.first > 63 || s.second > 63 || s.litres == 0) {
         return corrupt;
     }
+    let (there, crews) = roll_held(e, store);
+    if there > 1 {
+        return corrupt;
+    }
+    let (roll, beside) = if there == 1 { (Some(crews), [0; 64]) } else { (None, crews) };
+    if roll.is_some_and(|roll| reference::above(&roll) || sites.iter().any(|s| reference::without_crews(&roll, s))) {
+        return corrupt;
+    }
+    let list = List { sites, roll };
+    let holding = |list, plan| Ok(Book { beside, ..Book::holding(e, places, list, plan) });
     if figure(8) == 0 {
-        return Ok(Book::holding(e, places, list, None));
+        return holding(list, None);
     }
     if figure(16) > 64 {
         return corrupt;
@@ -369,6 +393,15 @@ pub fn held(store: &[u8], table: &[u8]) -> Result<Book, Refusal> {
     let sets: Vec<Depots> = groups.iter().map(|&g| depots(g)).collect();
     match reference::plan_row(&list, &sets, &shares) {
         12..=14 => corrupt,
-        _ => Ok(Book::holding(e, places, list, Some(Plan { groups, shares }))),
+        _ => holding(list, Some(Plan { groups, shares })),
     }
+}
+
+/// Whether a store has a roll, and the bytes for its crews. That of edition 1 has none.
+fn roll_held(e: Edition, store: &[u8]) -> (u64, Roll) {
+    if !e.has_rolls() {
+        return (0, [0; 64]);
+    }
+    let (there, crews) = store[e.store_roll()..].split_at(8);
+    (number(there), crews.try_into().expect("64 bytes"))
 }

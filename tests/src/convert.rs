@@ -1,16 +1,22 @@
 //! Lists and plans put to the converter, each way beside the reference: up from edition 1, back from edition 2.
 
-use crate::damage::{kept, reordered, spoil, Base};
-use crate::families::{extent, random, scattered, union, Extent, FAMILIES, LARGEST};
+use crate::damage::{kept, list_rows, reordered, spoil, Base};
+use crate::families::{extent, random, roll, rolled, scattered, union, Extent, FAMILIES, LARGEST};
 use crate::known;
 use crate::near::{miss, next_season};
-use crate::records::{list_bytes, no_plan, plan_bytes, site, Edition, Plan, Site, EDITIONS, ONE, TWO};
+use crate::records::{
+    list_bytes, no_plan, plan_bytes, roll_bytes, site, Edition, List, Plan, Site, EDITIONS, ONE, TWO,
+};
+use crate::reference::read_list;
 use crate::run::Run;
 
 /// The rows that each way can answer, from edition 1 and from edition 2, to a list alone and with a plan; 0 converts.
 pub const ROWS: [[&[usize]; 2]; 2] = [
     [&[0, 1, 2, 3, 4, 5, 6, 20], &[0, 1, 2, 3, 4, 5, 6, 7, 8, 9, 10, 11, 12, 13, 14, 15, 16, 20]],
-    [&[0, 1, 2, 3, 4, 5, 6, 20, 21], &[0, 1, 2, 3, 4, 5, 6, 7, 8, 9, 10, 11, 12, 13, 14, 15, 16, 20, 21]],
+    [
+        &[0, 1, 2, 3, 4, 5, 6, 22, 23, 20, 21],
+        &[0, 1, 2, 3, 4, 5, 6, 22, 23, 7, 8, 9, 10, 11, 12, 13, 14, 15, 16, 20, 21],
+    ],
 ];
 
 /// What is fixed, and random cases, so many in all.
@@ -29,14 +35,14 @@ pub fn conversions(run: &mut Run, cases: usize) {
     }
 }
 
-/// The litres that both editions have.
-fn light(sites: &[Site]) -> bool {
-    sites.iter().all(|s| s.litres <= ONE.most())
+/// Whether both editions have such a list: litres that fit edition 1, and no roll.
+fn in_both(list: &List) -> bool {
+    list.iter().all(|s| s.litres <= ONE.most()) && list.roll.is_none()
 }
 
 /// The bytes that the base needs in the other edition: those of its list, those of its plan.
 fn needed(base: &Base) -> [usize; 2] {
-    let (to, sites) = (base.edition.other(), base.sites.len());
+    let (to, sites) = (base.edition.other(), base.list.len());
     [to.list_length(sites), to.plan_length(base.plan.groups.len(), sites)]
 }
 
@@ -51,7 +57,7 @@ struct Given {
 impl Given {
     /// A base with room for all of it.
     fn of(base: &Base) -> Given {
-        let (list, plan) = (list_bytes(base.edition, &base.sites), plan_bytes(base.edition, &base.plan));
+        let (list, plan) = (list_bytes(base.edition, &base.list), plan_bytes(base.edition, &base.plan));
         Given { list, plan, room: needed(base) }
     }
 }
@@ -66,7 +72,7 @@ fn both(run: &mut Run, from: Edition, given: &Given) -> [u8; 2] {
 /// fits its buffer or not.
 fn expect(run: &mut Run, from: Edition, given: &Given, row: u8, what: &str) {
     let alone = match row {
-        1..=6 | 21 => row,
+        1..=6 | 21..=23 => row,
         _ if given.room[0] < from.other().list_length(given.list.len() / from.site_bytes) => 20,
         _ => 0,
     };
@@ -81,11 +87,11 @@ fn expect(run: &mut Run, from: Edition, given: &Given, row: u8, what: &str) {
 fn documented(run: &mut Run) {
     for e in EDITIONS {
         for known in known::lists(e) {
-            let row = if light(&known.sites) { 0 } else { 21 };
-            let own = run.plan(&known.sites);
+            let row = if in_both(&known.list) { 0 } else { 21 };
+            let own = run.plan(&known.list);
             let shares = known.shares.unwrap_or(own.shares.clone());
             for plan in [own, Plan { groups: known.groups, shares }] {
-                let base = Base { edition: e, sites: known.sites.clone(), plan };
+                let base = Base { edition: e, list: known.list.clone(), plan };
                 expect(run, e, &Given::of(&base), row, "a known list");
                 across(run, &base);
             }
@@ -94,6 +100,8 @@ fn documented(run: &mut Run) {
             let room = [e.other().list_length(9), e.other().plan_length(9, 9)];
             // the other edition's head on these records is refused by row 1
             let row = if row == 3 && list.starts_with(&e.other().list) { 1 } else { row };
+            // what reads and has a roll does not go back, whatever its plan
+            let row = if read_list(e, &list).is_ok_and(|list| !in_both(&list)) { 21 } else { row };
             expect(run, e, &Given { list, plan, room }, row, "an example of the table");
         }
         // T one way is T the other
@@ -122,7 +130,7 @@ fn across(run: &mut Run, base: &Base) {
     expect(run, e, &head, 1, "the other edition's head of a list");
     run.convert_plan(other, &head.list, &head.plan, room);
     run.convert_plan(other, &head.list, &headed(&given.plan, other.plan), room);
-    let row = if e == TWO && !light(&base.sites) { 21 } else { 7 };
+    let row = if in_both(&base.list) { 7 } else { 21 };
     for plan in [plan_bytes(other, &base.plan), headed(&given.plan, other.plan)] {
         expect(run, e, &Given { plan, ..Given::of(base) }, row, "a plan of the other edition");
     }
@@ -136,8 +144,12 @@ fn across(run: &mut Run, base: &Base) {
 /// Small lists with every two lengths of the buffers up to some more than is needed, larger ones with those around it.
 fn every_room(run: &mut Run) {
     let small = [vec![], vec![site(0, 1, 10)], vec![site(63, 63, 65_535)], vec![site(0, 1, 9), site(1, 2, 1)]];
-    for (sites, edition) in small.iter().flat_map(|sites| EDITIONS.map(|e| (sites, e))) {
-        let base = Base { edition, sites: sites.clone(), plan: run.plan(sites) };
+    let mut bases: Vec<(Edition, List)> = Vec::new();
+    for list in small.map(List::from) {
+        bases.extend([(ONE, list.clone()), (TWO, list.clone()), (TWO, list.with_ones())]);
+    }
+    for (edition, list) in bases {
+        let base = Base { edition, plan: run.plan(&list), list };
         let need = needed(&base);
         rooms(run, &base, &(0..need[0] + 3).collect::<Vec<usize>>(), &(0..need[1] + 3).collect::<Vec<usize>>());
     }
@@ -151,11 +163,12 @@ fn every_room(run: &mut Run) {
     }
 }
 
-/// A base that is converted where both lengths suffice, for each two of these.
+/// A base that is converted where both lengths suffice, for each two of these; with a roll it is refused by row 21.
 fn rooms(run: &mut Run, base: &Base, lists: &[usize], plans: &[usize]) {
     let need = needed(base);
     for (&n, &m) in lists.iter().flat_map(|n| plans.iter().map(move |m| (n, m))) {
-        let row = if n < need[0] || m < need[1] { 20 } else { 0 };
+        let short = n < need[0] || m < need[1];
+        let row = if !in_both(&base.list) { 21 } else { 20 * u8::from(short) };
         expect(run, base.edition, &Given { room: [n, m], ..Given::of(base) }, row, "a length of the buffers");
     }
 }
@@ -163,14 +176,14 @@ fn rooms(run: &mut Run, base: &Base, lists: &[usize], plans: &[usize]) {
 /// Every byte of small lists and plans changed in nine ways, every prefix, and bytes added.
 fn every_byte(run: &mut Run) {
     for edition in EDITIONS {
-        let lists = known::lists(edition).into_iter().map(|k| k.sites);
-        let mut small: Vec<Vec<Site>> = lists.filter(|s| s.len() < 20).collect();
+        let lists = known::lists(edition).into_iter().map(|k| k.list);
+        let mut small: Vec<List> = lists.filter(|s| s.len() < 20).collect();
         for _ in 0..4 {
             let (sites, depots) = (run.rng.from_to(1, 8), run.rng.from_to(1, 6));
-            small.push(random(&mut run.rng, Extent { edition, sites, depots, litres: 9 }));
+            small.push(random(&mut run.rng, Extent { edition, sites, depots, litres: 9 }).into());
         }
-        for sites in small {
-            let base = Base { edition, plan: run.plan(&sites), sites };
+        for list in small {
+            let base = Base { edition, plan: run.plan(&list), list };
             change_each(run, &base);
         }
     }
@@ -207,14 +220,14 @@ fn change_each(run: &mut Run, base: &Base) {
 fn every_count(run: &mut Run) {
     for count in 0..=512 {
         let sites: Vec<Site> = known::own_sites(65_535).into_iter().take(count).collect();
-        let sites = scattered(&mut run.rng, &sites);
+        let of: List = scattered(&mut run.rng, &sites).into();
         for edition in EDITIONS {
-            let list = list_bytes(edition, &sites);
+            let list = list_bytes(edition, &of);
             let room = edition.other().list_length(count);
             run.convert_list(edition, &list, &[], room);
             run.convert_list(edition, &list, &[], room - 1);
             if count % 73 == 0 || count == 512 {
-                let base = Base { edition, sites: sites.clone(), plan: run.plan(&sites) };
+                let base = Base { edition, list: of.clone(), plan: run.plan(&of) };
                 expect(run, edition, &Given::of(&base), 0, "own sites");
             }
         }
@@ -235,12 +248,13 @@ fn ends(run: &mut Run) {
             for litres in fit.into_iter().chain(beyond) {
                 let mut sites: Vec<Site> = (0..count).map(|i| site(i as u8 % 64, (i / 64) as u8, 7)).collect();
                 sites[at].litres = litres;
-                let plan = if count == 512 { no_plan() } else { run.plan(&sites) };
+                let list: List = sites.into();
+                let plan = if count == 512 { no_plan() } else { run.plan(&list) };
                 for edition in EDITIONS {
                     if edition == ONE && litres > 65_535 {
                         continue;
                     }
-                    let base = Base { edition, sites: sites.clone(), plan: plan.clone() };
+                    let base = Base { edition, list: list.clone(), plan: plan.clone() };
                     // without its plan, the longest list gets row 9
                     let row = if litres > 65_535 { 21 } else { 9 * u8::from(count == 512) };
                     expect(run, edition, &Given::of(&base), row, "litres at the ends");
@@ -250,26 +264,28 @@ fn ends(run: &mut Run) {
     }
     // all sites beyond them, none, and each one alone, with no bytes as a plan
     for (litres, row) in [(65_536, 21), (65_535, 0)] {
-        let sites = known::own_sites(litres);
-        let base = Base { edition: TWO, plan: run.plan(&sites), sites };
+        let list: List = known::own_sites(litres).into();
+        let base = Base { edition: TWO, plan: run.plan(&list), list };
         expect(run, TWO, &Given::of(&base), row, "equal litres at the ends");
     }
     for at in 0..512 {
         let mut sites = known::own_sites(65_535);
         sites[at].litres = 65_536;
-        let given = Given { list: list_bytes(TWO, &sites), plan: vec![], room: [ONE.list_length(512), 5] };
+        let given = Given { list: list_bytes(TWO, &sites.into()), plan: vec![], room: [ONE.list_length(512), 5] };
         expect(run, TWO, &given, 21, "65,536 litres at one of 512 sites");
     }
 }
 
-/// The largest list of each family, each way.
+/// The largest list of each family, each way, and with a roll.
 fn largest(run: &mut Run) {
     for (_, family) in FAMILIES {
         for litres in [1, 65_535] {
             let sites = family(&mut run.rng, Extent { litres, ..LARGEST });
             for edition in EDITIONS {
-                work_on(run, edition, &sites, 2);
+                work_on(run, edition, &sites.clone().into(), 2);
             }
+            let crews = roll(&mut run.rng, &sites);
+            work_on(run, TWO, &List { sites, roll: Some(crews) }, 1);
         }
     }
 }
@@ -291,7 +307,7 @@ fn any_bytes(run: &mut Run) {
             both(run, e, &Given { list: marked, plan: plan.clone(), room });
             both(run, e, &Given { list, plan, room });
         }
-        let heavy = list_bytes(e, &[site(0, 1, e.most())]);
+        let heavy = list_bytes(e, &vec![site(0, 1, e.most())].into());
         let heavy_row = if e == TWO { 21 } else { 7 };
         for (one, row) in [(t, 7), (t_plan, 1), (known::t(e.other()).0, 1), (vec![], 1), (heavy, heavy_row)] {
             let answer = run.convert_plan(e, &one, &one, [12, 25]);
@@ -323,14 +339,14 @@ impl Fault {
 
 /// The faults that a way tries, in their order; the last three are one row.
 fn faults(from: Edition) -> Vec<Fault> {
-    let list = (1..=6).map(Row);
+    let list = list_rows(from).into_iter().map(Row);
     let beyond = (from == TWO).then_some(Row(21));
     let plan = (7..=16).map(Row);
     list.chain(beyond).chain(plan).chain([Short(true, false), Short(false, true), Short(true, true)]).collect()
 }
 
 /// For every two faults of a way, in different rows: what has both is refused by the earlier. An input counts where the
-/// earlier damage leaves all of the later.
+/// earlier damage leaves all of the later, and no roll comes before both.
 fn all_pairs(run: &mut Run) {
     for e in EDITIONS {
         let faults = faults(e);
@@ -359,7 +375,7 @@ fn all_pairs(run: &mut Run) {
 }
 
 /// A list in two parts with no site between them, with litres that both editions have, in a random order of its sites,
-/// and its true plan.
+/// and its true plan. In edition 2 half of them have a roll.
 fn parts(run: &mut Run, edition: Edition) -> Base {
     let part = |run: &mut Run| {
         let litres = *run.rng.pick(&[20, 20, 65_535]);
@@ -369,7 +385,18 @@ fn parts(run: &mut Run, edition: Edition) -> Base {
     };
     let both = union(&part(run), 4, &part(run));
     let sites = scattered(&mut run.rng, &both);
-    Base { edition, plan: run.plan(&sites), sites }
+    let list = rolled(&mut run.rng, edition, sites);
+    Base { edition, plan: run.plan(&list), list }
+}
+
+/// The row that a base gets with one fault: with a roll it is refused by row 21 before its plan is read.
+fn row_with(base: &Base, fault: Fault) -> u8 {
+    let first = [list_rows(base.edition), vec![21]].concat();
+    if in_both(&base.list) || first.contains(&fault.row()) {
+        fault.row()
+    } else {
+        21
+    }
 }
 
 /// Damage for a later fault and then for an earlier one. False where the base does not allow both, or where the second
@@ -382,18 +409,20 @@ fn pair(run: &mut Run, base: &Base, early: Fault, late: Fault) -> bool {
         return false;
     }
     let plan = reordered.unwrap_or_else(|| base.plan.clone());
-    let base = &Base { edition: e, sites: base.sites.clone(), plan };
+    let base = &Base { edition: e, list: base.list.clone(), plan };
     let mut given = Given::of(base);
     if late != Row(16) && !fault(run, late, base, &mut given) {
         return false;
     }
-    expect(run, e, &given, late.row(), &format!("{late:?}"));
+    expect(run, e, &given, row_with(base, late), &format!("{late:?}"));
     let once = given.clone();
     if !fault(run, early, base, &mut given) {
         return false;
     }
-    expect(run, e, &given, early.row(), &format!("{early:?} and {late:?}"));
-    kept(&whole.list, &once.list, &given.list) && kept(&whole.plan, &once.plan, &given.plan)
+    expect(run, e, &given, row_with(base, early), &format!("{early:?} and {late:?}"));
+    row_with(base, early) == early.row()
+        && kept(&whole.list, &once.list, &given.list)
+        && kept(&whole.plan, &once.plan, &given.plan)
 }
 
 /// Spoils what a fault is about, in the bytes of `base` or in bytes that a later one's damage has changed. False where
@@ -403,8 +432,8 @@ fn fault(run: &mut Run, fault: Fault, base: &Base, given: &mut Given) -> bool {
     match fault {
         // a list of the other edition, by its head, or wholly if there is no damage in it
         Row(1) if rng.percent(40) => {
-            if given.list == list_bytes(e, &base.sites) && rng.percent(50) {
-                given.list = list_bytes(e.other(), &base.sites);
+            if given.list == list_bytes(e, &base.list) && rng.percent(50) {
+                given.list = list_bytes(e.other(), &base.list);
             } else {
                 given.list[..2].copy_from_slice(&e.other().list);
             }
@@ -414,10 +443,15 @@ fn fault(run: &mut Run, fault: Fault, base: &Base, given: &mut Given) -> bool {
             None => return false,
         },
         Row(21) => {
-            if base.sites.is_empty() {
+            if base.list.is_empty() {
                 return false;
             }
-            let count = base.sites.len();
+            // a roll where there is none and the list has no other damage, or litres
+            if base.list.roll.is_none() && given.list == list_bytes(e, &base.list) && rng.percent(40) {
+                given.list.extend(roll_bytes(&roll(rng, &base.list)));
+                return true;
+            }
+            let count = base.list.len();
             for _ in 0..rng.from_to(1, count) {
                 let at = e.list_length(rng.below(count)) + 6 + rng.below(2);
                 given.list[at] = rng.from_to(1, 255) as u8;
@@ -450,14 +484,16 @@ fn random_list(run: &mut Run) {
     let family = run.rng.pick(&FAMILIES).1;
     let list = family(&mut run.rng, e);
     let list = scattered(&mut run.rng, &list);
+    // with a roll row 21 comes before all that is in the plan
+    let list = if run.rng.percent(40) { rolled(&mut run.rng, from, list) } else { list.into() };
     work_on(run, from, &list, 2);
 }
 
 /// The cases of one list of an edition; `times` of each kind of damage.
-fn work_on(run: &mut Run, e: Edition, sites: &[Site], times: usize) {
-    let base = Base { edition: e, sites: sites.to_vec(), plan: run.plan(sites) };
+fn work_on(run: &mut Run, e: Edition, of: &List, times: usize) {
+    let base = Base { edition: e, list: of.clone(), plan: run.plan(of) };
     let Given { list, plan, room } = Given::of(&base);
-    let row = if light(sites) { 0 } else { 21 };
+    let row = if in_both(of) { 0 } else { 21 };
     expect(run, e, &Given::of(&base), row, "a list and its plan");
     across(run, &base);
 
@@ -493,14 +529,14 @@ fn work_on(run: &mut Run, e: Edition, sites: &[Site], times: usize) {
     }
 
     // near misses, and the plan with next season's list
-    if !sites.is_empty() {
+    if !of.is_empty() {
         for _ in 0..2 * times {
-            let near = miss(&mut run.rng, e, sites, &base.plan);
+            let near = miss(&mut run.rng, e, of, &base.plan);
             let near = plan_bytes(e, &near);
             run.convert_plan(e, &list, &near, [more[0], more[1] + e.other().plan_length(64, 0)]);
         }
         for _ in 0..times {
-            let next = list_bytes(e, &next_season(&mut run.rng, e, sites));
+            let next = list_bytes(e, &next_season(&mut run.rng, e, of));
             both(run, e, &Given { list: next, plan: plan.clone(), room });
         }
     }

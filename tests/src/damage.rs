@@ -1,18 +1,33 @@
 //! Damage to a list and a plan, by row: each function spoils what one row is about.
 
-use crate::records::{listed, members, plan_bytes, Edition, Plan, Site, EDITIONS};
+use crate::records::{listed, members, plan_bytes, Edition, List, Plan, Site, EDITIONS, ROLL_BYTES};
 use crate::rng::Rng;
 
 /// A list and a plan laid out for it in an edition, as values. Offsets of the bytes follow from their counts.
 pub struct Base {
     pub edition: Edition,
-    pub sites: Vec<Site>,
+    pub list: List,
     pub plan: Plan,
+}
+
+/// The rows of Check in the order in which they are tried.
+pub fn rows(e: Edition) -> Vec<u8> {
+    list_rows(e).into_iter().chain(7..=16).collect()
+}
+
+/// Those of the list.
+pub fn list_rows(e: Edition) -> Vec<u8> {
+    let of_roll: &[u8] = if e.has_rolls() { &[22, 23] } else { &[] };
+    (1..=6).chain(of_roll.iter().copied()).collect()
 }
 
 impl Base {
     fn site_at(&self, i: usize) -> usize {
         self.edition.list_length(i)
+    }
+
+    fn roll_at(&self) -> usize {
+        self.site_at(self.list.len())
     }
 
     fn group_at(&self, k: usize) -> usize {
@@ -30,8 +45,8 @@ impl Base {
     /// The places of a site's two depots and its litres at the scale of the carrying group.
     fn carried(&self, s: &Site) -> (usize, usize, u64) {
         let (first, second) = (self.place(s.first), self.place(s.second));
-        let q = self.plan.groups[first.max(second)].count_ones();
-        (first, second, u64::from(s.litres) * u64::from(q))
+        let q = self.list.size(self.plan.groups[first.max(second)]);
+        (first, second, u64::from(s.litres) * q)
     }
 }
 
@@ -82,10 +97,25 @@ fn spoil_length(rng: &mut Rng, bytes: &mut Vec<u8>, least: usize, other: usize) 
     }
 }
 
-/// Spoils what `row` is about, for rows 1 to 15, in the bytes of `base` or in bytes that a later row's
+/// Gives a list of so many sites a length that its edition does not take.
+fn spoil_list_length(rng: &mut Rng, e: Edition, list: &mut Vec<u8>, sites: usize) {
+    let whole = e.list_length(sites);
+    if rng.percent(20) {
+        // around a roll: its mark alone, a byte fewer or more, two of them; edition 1 has none
+        let more = *rng.pick(&[1, 2, ROLL_BYTES - 2, ROLL_BYTES - 1, ROLL_BYTES, ROLL_BYTES + 1, 2 * ROLL_BYTES]);
+        list.resize(whole + more, rng.byte());
+    } else {
+        spoil_length(rng, list, 4, e.other().list_length(sites));
+    }
+    if list.len() == whole || e.has_rolls() && list.len() == whole + ROLL_BYTES {
+        list.push(rng.byte());
+    }
+}
+
+/// Spoils what `row` is about, for rows 1 to 15, 22 and 23, in the bytes of `base` or in bytes that a later row's
 /// damage has changed. False where this base has nothing to spoil.
 pub fn spoil(rng: &mut Rng, row: u8, base: &Base, list: &mut Vec<u8>, plan: &mut Vec<u8>) -> bool {
-    let (sites, groups) = (base.sites.len(), base.plan.groups.len());
+    let (sites, groups) = (base.list.len(), base.plan.groups.len());
     let (e, other) = (base.edition, base.edition.other());
     match row {
         1 => {
@@ -114,8 +144,11 @@ pub fn spoil(rng: &mut Rng, row: u8, base: &Base, list: &mut Vec<u8>, plan: &mut
                 }
                 put(list, 2, &(count as u16).to_le_bytes());
             } else {
-                spoil_length(rng, list, 4, other.list_length(sites));
+                spoil_list_length(rng, e, list, sites);
             }
+        }
+        4 if base.list.roll.is_some() && (sites == 0 || rng.percent(30)) => {
+            spoil_mark(rng, list, base.roll_at(), e.site)
         }
         4..=6 => {
             if sites == 0 {
@@ -127,6 +160,18 @@ pub fn spoil(rng: &mut Rng, row: u8, base: &Base, list: &mut Vec<u8>, plan: &mut
                 5 => put(list, at + 2 + rng.below(2), &[rng.from_to(64, 255) as u8]),
                 _ => put(list, at + 4, &e.litres(0)),
             }
+        }
+        22 | 23 => {
+            let named = members(listed(&base.list));
+            if base.list.roll.is_none() || row == 23 && named.is_empty() {
+                return false;
+            }
+            let (depot, crews) = if row == 22 {
+                (rng.below(64), if rng.percent(40) { 10 } else { rng.from_to(10, 255) })
+            } else {
+                (*rng.pick(&named), 0)
+            };
+            put(list, base.roll_at() + 2 + depot, &[crews as u8]);
         }
         7 => match rng.below(10) {
             0..=2 => plan.truncate(rng.below(5)),
@@ -200,7 +245,7 @@ pub fn spoil(rng: &mut Rng, row: u8, base: &Base, list: &mut Vec<u8>, plan: &mut
             }
             let k = rng.below(groups);
             let set = base.plan.groups[k];
-            let free = members(!listed(&base.sites));
+            let free = members(!listed(&base.list));
             let set = if set.count_ones() > 1 && (free.is_empty() || rng.percent(50)) {
                 set & !(1 << rng.pick(&members(set)))
             } else if free.is_empty() {
@@ -215,7 +260,7 @@ pub fn spoil(rng: &mut Rng, row: u8, base: &Base, list: &mut Vec<u8>, plan: &mut
                 return false;
             }
             let i = rng.below(sites);
-            let s = &base.sites[i];
+            let s = &base.list[i];
             let (first, second, whole) = base.carried(s);
             let fixed = s.first == s.second || first != second;
             let share = match rng.below(4) {
@@ -237,16 +282,16 @@ pub fn spoil(rng: &mut Rng, row: u8, base: &Base, list: &mut Vec<u8>, plan: &mut
         }
         15 => {
             let open = |s: &&Site| s.first != s.second && base.place(s.first) == base.place(s.second);
-            if !base.sites.iter().any(|s| open(&s)) {
+            if !base.list.iter().any(|s| open(&s)) {
                 return false;
             }
             let i = loop {
                 let i = rng.below(sites);
-                if open(&&base.sites[i]) {
+                if open(&&base.list[i]) {
                     break i;
                 }
             };
-            let (_, _, whole) = base.carried(&base.sites[i]);
+            let (_, _, whole) = base.carried(&base.list[i]);
             let share = base.plan.shares[i];
             let other = match rng.below(3) {
                 0 if share < whole => share + 1,
@@ -271,7 +316,7 @@ pub fn reordered(rng: &mut Rng, base: &Base) -> Option<Plan> {
         return None;
     }
     let tied = |j: usize, k: usize| {
-        base.sites.iter().any(|s| {
+        base.list.iter().any(|s| {
             let both = 1u64 << s.first | 1u64 << s.second;
             both & groups[j] != 0 && both & groups[k] != 0
         })

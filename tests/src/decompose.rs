@@ -3,7 +3,7 @@
 use std::collections::BTreeMap;
 
 use crate::flow::Graph;
-use crate::records::{listed, Site};
+use crate::records::{listed, List, Site};
 
 /// "The litres of a set, given the depots already grouped, are those of all sites that touch the set
 /// and whose depots all lie in the set or among the grouped ones. A site counts once."
@@ -19,8 +19,8 @@ pub fn litres(sites: &[Site], set: u64, grouped: u64) -> u64 {
 }
 
 /// The groups by trying every set of the depots not yet grouped.
-pub fn by_all_sets(sites: &[Site]) -> Vec<u64> {
-    let all = listed(sites);
+pub fn by_all_sets(list: &List) -> Vec<u64> {
+    let all = listed(list);
     let mut grouped = 0;
     let mut groups = Vec::new();
     while grouped != all {
@@ -29,8 +29,8 @@ pub fn by_all_sets(sites: &[Site]) -> Vec<u64> {
         let mut ties = 0;
         let mut set = rest;
         while set != 0 {
-            let w = litres(sites, set, grouped);
-            let q = u64::from(set.count_ones());
+            let w = litres(list, set, grouped);
+            let q = list.size(set);
             if best == 0 || w * size > most * q || w * size == most * q && q > size {
                 (best, most, size, ties) = (set, w, q, 0);
             } else if w * size == most * q && q == size {
@@ -45,16 +45,16 @@ pub fn by_all_sets(sites: &[Site]) -> Vec<u64> {
     groups
 }
 
-/// The largest set X of `rest` for which size × litres(X) - most × |X| is greatest, by a minimum cut:
-/// a site earns its litres if all its depots not yet grouped are taken, and each of these costs.
-fn greatest(pairs: &BTreeMap<u64, u64>, rest: u64, most: u64, size: u64) -> u64 {
+/// The largest set X of `rest` for which size × litres(X) - most × |X| is greatest, |X| its crews, by a minimum cut:
+/// a site earns its litres if all its depots not yet grouped are taken, and each of these costs by its crews.
+fn greatest(list: &List, pairs: &BTreeMap<u64, u64>, rest: u64, most: u64, size: u64) -> u64 {
     let depots = rest.count_ones() as usize;
     let vertex = |d: u32| 2 + (rest & ((1u64 << d) - 1)).count_ones() as usize;
     let (source, sink) = (0, 1);
     let mut graph = Graph::new(2 + depots + pairs.len());
     for d in 0..64 {
         if rest >> d & 1 == 1 {
-            graph.edge(vertex(d), sink, most);
+            graph.edge(vertex(d), sink, most * list.crews(d as usize));
         }
     }
     for (i, (&ends, &w)) in pairs.iter().enumerate() {
@@ -71,17 +71,17 @@ fn greatest(pairs: &BTreeMap<u64, u64>, rest: u64, most: u64, size: u64) -> u64 
     (0..64).filter(|&d| rest >> d & 1 == 1 && !reaching[vertex(d)]).fold(0, |set, d| set | 1 << d)
 }
 
-/// The groups by Dinkelbach's method over minimum cuts: from a set's litres per depot to a heavier
+/// The groups by Dinkelbach's method over minimum cuts: from a set's litres per crew to a heavier
 /// set, until the largest set that is not lighter is no heavier either.
-pub fn by_cuts(sites: &[Site]) -> Vec<u64> {
-    let all = listed(sites);
+pub fn by_cuts(list: &List) -> Vec<u64> {
+    let all = listed(list);
     let mut grouped = 0;
     let mut groups = Vec::new();
     while grouped != all {
         let rest = all & !grouped;
         // sites that are left, by their depots that are not grouped
         let mut pairs = BTreeMap::new();
-        for s in sites {
+        for s in list.iter() {
             let ends = (1u64 << s.first | 1u64 << s.second) & rest;
             if ends != 0 {
                 *pairs.entry(ends).or_insert(0) += u64::from(s.litres);
@@ -89,10 +89,9 @@ pub fn by_cuts(sites: &[Site]) -> Vec<u64> {
         }
         let mut set = rest;
         loop {
-            let most = litres(sites, set, grouped);
-            let size = u64::from(set.count_ones());
-            let next = greatest(&pairs, rest, most, size);
-            let (w, q) = (litres(sites, next, grouped), u64::from(next.count_ones()));
+            let (most, size) = (litres(list, set, grouped), list.size(set));
+            let next = greatest(list, &pairs, rest, most, size);
+            let (w, q) = (litres(list, next, grouped), list.size(next));
             assert!(next != 0 && w * size >= most * q, "a cut is no lighter than the set it starts from");
             set = next;
             if w * size == most * q {
@@ -108,24 +107,23 @@ pub fn by_cuts(sites: &[Site]) -> Vec<u64> {
 /// Shares for groups in a given order, by a flow from sites to the depots of their carrying group;
 /// and whether they are level. Where they cannot be level, what is left of a site goes to its first
 /// depot in the carrying group. Every listed depot is in one group.
-pub fn shares(sites: &[Site], groups: &[u64]) -> (Vec<u64>, bool) {
+pub fn shares(list: &List, groups: &[u64]) -> (Vec<u64>, bool) {
     let place = |d: u8| groups.iter().position(|g| g >> d & 1 == 1).expect("a grouped depot");
-    let mut shares = vec![0; sites.len()];
+    let mut shares = vec![0; list.len()];
     let mut level = true;
     let mut grouped = 0;
     for (k, &g) in groups.iter().enumerate() {
-        let w = litres(sites, g, grouped);
-        let q = u64::from(g.count_ones());
-        let mut graph = Graph::new(66 + sites.len());
+        let (w, q) = (litres(list, g, grouped), list.size(g));
+        let mut graph = Graph::new(66 + list.len());
         let (source, sink) = (64, 65);
         for d in 0..64 {
             if g >> d & 1 == 1 {
-                graph.edge(d, sink, w);
+                graph.edge(d, sink, list.crews(d) * w);
             }
         }
         // of each site that the group carries: its edge, and that to its first depot if it may have a share
         let mut carried = Vec::new();
-        for (i, s) in sites.iter().enumerate() {
+        for (i, s) in list.iter().enumerate() {
             let (first, second) = (place(s.first), place(s.second));
             if first.max(second) != k {
                 continue;

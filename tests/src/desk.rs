@@ -2,12 +2,14 @@
 //! lengths, and what is of the other edition.
 
 use crate::book::{held, served, sized, Book, Call, Litres, Refusal, Told};
-use crate::damage::{reordered, spoil, Base};
-use crate::families::{extent, scattered, FAMILIES};
+use crate::damage::{list_rows, reordered, spoil, Base};
+use crate::families::{extent, rolled, scattered, FAMILIES};
 use crate::known;
 use crate::lent::{self, Lent, Reply};
 use crate::near::{miss, next_season};
-use crate::records::{list_bytes, no_plan, plan_bytes, site, Edition, Plan, Site, EDITIONS, ONE, TWO};
+use crate::records::{
+    list_bytes, no_plan, plan_bytes, roll_bytes, site, Edition, List, Plan, Site, EDITIONS, ONE, ROLL_BYTES, TWO,
+};
 use crate::run::Run;
 
 /// The places of success and of no store, beside those of the rows.
@@ -34,9 +36,13 @@ const ROWS: [&[usize]; 10] = [
     &[0, 20, DONE, NO_STORE],
 ];
 
-/// Lengths of no store, around those of a store of either edition and of its parts.
-pub const LENGTHS: [usize; 15] =
-    [0, 1, 8, 24, 536, 2_583, 2_585, 2_588, 3_608, 4_631, 4_633, 4_640, 5_168, 7_216, 10_000];
+/// The rows of rolls that a load and an added site can answer too, in edition 2.
+const OF_ROLLS: [(usize, usize); 3] = [(0, 22), (0, 23), (2, 23)];
+
+/// Lengths of no store, around those of a store of either edition and of its parts; a store of edition 2 without the
+/// bytes of a roll is among them.
+pub const LENGTHS: [usize; 18] =
+    [0, 1, 8, 24, 536, 2_583, 2_585, 2_588, 2_656, 3_608, 4_632, 4_640, 4_703, 4_705, 4_712, 5_168, 7_288, 10_000];
 
 /// The rows of the table that some call never answered: edition, call, row.
 pub fn missing(seen: &Seen) -> Vec<(usize, usize, usize)> {
@@ -44,6 +50,7 @@ pub fn missing(seen: &Seen) -> Vec<(usize, usize, usize)> {
         .iter()
         .flat_map(|e| (0..ROWS.len()).map(|kind| (e.number, kind)))
         .flat_map(|(edition, kind)| ROWS[kind].iter().map(move |&row| (edition, kind, row)))
+        .chain(OF_ROLLS.map(|(kind, row)| (TWO.number, kind, row)))
         .filter(|&(edition, kind, row)| seen[edition - 1][kind][row] == 0)
         .collect()
 }
@@ -207,27 +214,28 @@ fn wrapped_by<E: sulgheti::Edition>(
     Some(answer.map_err(|row| Refusal::Row(row.0)) == *expected && kept)
 }
 
-/// A list of a family.
-fn sites(run: &mut Run, e: Edition, most: usize, depots: usize) -> Vec<Site> {
+/// A list of a family, in edition 2 with a roll or without one.
+fn some_list(run: &mut Run, e: Edition, most: usize, depots: usize) -> List {
     let sites = run.rng.from_to(0, most);
     let family = run.rng.pick(&FAMILIES).1;
     let size = extent(&mut run.rng, e, sites, depots);
-    let list = family(&mut run.rng, size);
-    scattered(&mut run.rng, &list)
+    let sites = family(&mut run.rng, size);
+    let sites = scattered(&mut run.rng, &sites);
+    rolled(&mut run.rng, e, sites)
 }
 
 /// A list for a load: mostly one that reads, sometimes damaged or of the other edition.
 fn loaded(run: &mut Run, e: Edition, most: usize, depots: usize) -> Vec<u8> {
-    let sites = sites(run, e, most, depots);
+    let of = some_list(run, e, most, depots);
     if run.rng.percent(5) {
-        return list_bytes(e.other(), &sites);
+        return list_bytes(e.other(), &of);
     }
-    let mut list = list_bytes(e, &sites);
+    let mut list = list_bytes(e, &of);
     if run.rng.percent(35) {
-        let row = run.rng.from_to(1, 6) as u8;
-        let plan = run.plan(&sites);
+        let row = *run.rng.pick(&list_rows(e));
+        let plan = run.plan(&of);
         let mut bytes = plan_bytes(e, &plan);
-        spoil(&mut run.rng, row, &Base { edition: e, sites, plan }, &mut list, &mut bytes);
+        spoil(&mut run.rng, row, &Base { edition: e, list: of, plan }, &mut list, &mut bytes);
     }
     list
 }
@@ -251,13 +259,13 @@ fn proposed(run: &mut Run, book: &Book, old: &mut Vec<u8>) -> Vec<u8> {
         4 | 5 => stale,
         6 if !book.list.is_empty() => plan_bytes(e, &miss(&mut run.rng, e, &book.list, &own)),
         7 => {
-            let base = Base { edition: e, sites: book.list.clone(), plan: own };
+            let base = Base { edition: e, list: book.list.clone(), plan: own };
             reordered(&mut run.rng, &base).map_or(bytes, |plan| plan_bytes(e, &plan))
         }
         _ => {
             let row = run.rng.from_to(7, 15) as u8;
             let (mut list, mut bytes) = (list_bytes(e, &book.list), bytes);
-            let base = Base { edition: e, sites: book.list.clone(), plan: own };
+            let base = Base { edition: e, list: book.list.clone(), plan: own };
             spoil(&mut run.rng, row, &base, &mut list, &mut bytes);
             bytes
         }
@@ -307,7 +315,7 @@ pub fn any_call(run: &mut Run, book: &Book, old: &mut Vec<u8>, most: usize, depo
         65..=72 => Call::Depot(depot(run)),
         73..=81 => Call::Difference(depot(run), depot(run)),
         82..=88 => Call::AtLeast(mark(run, book)),
-        89..=94 => Call::List(near_length(run, e.list_length(n))),
+        89..=94 => Call::List(near_length(run, book.list.length(e))),
         _ => {
             let length = book.plan.as_ref().map_or(5, |plan: &Plan| plan_bytes(e, plan).len());
             Call::Written(near_length(run, length))
@@ -346,12 +354,12 @@ pub fn history(
 
 /// The desk and table with some of their bytes changed: the figures of the store, a place, any bytes, or its length, also
 /// to the other edition's; or litres with the share of their site, so that row 0 lets the plan through, whose groups may
-/// then rise.
+/// then rise. In edition 2 also the bytes of the roll.
 pub fn foreign(run: &mut Run, desk: &Bytes) -> Bytes {
     let e = desk.edition();
     let mut desk = desk.clone();
     let put = |bytes: &mut Vec<u8>, at: usize, with: &[u8]| bytes[at..at + with.len()].copy_from_slice(with);
-    match run.rng.below(13) {
+    match run.rng.below(if e.has_rolls() { 17 } else { 13 }) {
         0 => {
             let places = desk.places() as u64;
             let count = *run.rng.pick(&[0, 1, 2, places, places + 1, 512, 513, 1 << 32, u64::MAX]);
@@ -401,6 +409,23 @@ pub fn foreign(run: &mut Run, desk: &Bytes) -> Bytes {
                 put(&mut desk.store, e.store_share(site), &e.s(share));
             }
         }
+        13 => {
+            let figure = *run.rng.pick(&[0u64, 1, 1, 2, 256, 1 << 63]);
+            put(&mut desk.store, e.store_roll(), &figure.to_le_bytes());
+        }
+        // one depot's crews, those of all, or any bytes beside no roll
+        14 => {
+            let at = e.store_roll() + 8 + run.rng.below(64);
+            desk.store[at] = *run.rng.pick(&[0, 1, 9, 10, 255]);
+        }
+        15 => {
+            let crews = *run.rng.pick(&[0, 1, 2, 9, 10]);
+            desk.store[e.store_roll() + 8..].fill(crews);
+        }
+        16 => {
+            put(&mut desk.store, e.store_roll(), &0u64.to_le_bytes());
+            desk.store[e.store_roll() + 8..].iter_mut().for_each(|b| *b = run.rng.byte());
+        }
         _ => {
             let at = run.rng.below(desk.store.len());
             desk.store[at] ^= 1 << run.rng.below(8);
@@ -443,6 +468,8 @@ pub fn histories(run: &mut Run, calls: usize) -> Seen {
         marks(run, e, &mut seen);
         lists(run, e, &mut seen);
     }
+    rolls(run, &mut seen);
+    beside(run, &mut seen);
     seen
 }
 
@@ -451,11 +478,14 @@ fn own(depot: usize, litres: u32) -> Site {
     site(depot as u8, depot as u8, litres)
 }
 
+/// Marks, each with the set that is to be answered.
+type Asked = Vec<(u32, u64)>;
+
 /// Marks whose sets are worked out here: plans that pass, with the groups falling, and held groups that do not fall, which
 /// row 0 lets through.
 fn marks(run: &mut Run, e: Edition, seen: &mut Seen) {
     let (all, most) = (u64::MAX, u32::MAX);
-    let mut cases: Vec<(Vec<Site>, Vec<(u32, u64)>)> = vec![
+    let mut cases: Vec<(Vec<Site>, Asked)> = vec![
         // no sites
         (vec![], vec![(0, 0), (1, 0), (most, 0)]),
         // T: 10/2 each; 2 x 2^31 is 0 in 32 bits
@@ -505,11 +535,28 @@ fn marks(run: &mut Run, e: Edition, seen: &mut Seen) {
         asked.extend([(litres, set), (litres - 1, set)]);
     }
     cases.push((steps, asked));
-    for (sites, asked) in cases {
-        let mut desk = Bytes::fresh(run, e, sites.len());
-        let mut book = Ok(Book::new(e, sites.len()));
-        let plan = plan_bytes(e, &run.plan(&sites));
-        call(run, &mut desk, &mut book, &Call::Load(list_bytes(e, &sites)), seen);
+    let mut lists: Vec<(List, Asked)> = cases.into_iter().map(|(sites, asked)| (sites.into(), asked)).collect();
+    if e.has_rolls() {
+        let crewed = |sites: Vec<Site>, crews: &[(usize, u8)]| List { sites, roll: Some(known::roll(crews)) };
+        lists.extend([
+            // 12/4: 4 x 2^30 is 0 in 32 bits
+            (crewed(vec![site(0, 1, 12)], &[(0, 3), (1, 1)]), vec![(0, 3), (3, 3), (4, 0), (6, 0), (1 << 30, 0)]),
+            // 10/19; 8/9 and 4/9; 18/9 and 17/9
+            (crewed(vec![site(0, 1, 9), site(1, 2, 1)], &[(0, 9), (1, 9), (2, 1)]), vec![(0, 7), (1, 0)]),
+            (crewed(vec![own(0, 8), own(1, 4)], &[(0, 9), (1, 9), (2, 1)]), vec![(0, 3), (1, 0)]),
+            (crewed(vec![own(0, 18), own(1, 17)], &[(0, 9), (1, 9)]), vec![(0, 3), (1, 3), (2, 1), (3, 0)]),
+            // nine crews at each depot, and 8 x the most litres for them
+            (
+                List { sites: known::own_sites(most), roll: Some([9; 64]) },
+                vec![(0, all), (3_817_748_706, all), (3_817_748_707, 0), (most, 0)],
+            ),
+        ]);
+    }
+    for (list, asked) in lists {
+        let mut desk = Bytes::fresh(run, e, list.len());
+        let mut book = Ok(Book::new(e, list.len()));
+        let plan = plan_bytes(e, &run.plan(&list));
+        call(run, &mut desk, &mut book, &Call::Load(list_bytes(e, &list)), seen);
         call(run, &mut desk, &mut book, &Call::AtLeast(asked[0].0), seen);
         call(run, &mut desk, &mut book, &Call::Propose(plan), seen);
         ask(run, &mut desk, &mut book, &asked, seen);
@@ -530,7 +577,7 @@ fn marks(run: &mut Run, e: Edition, seen: &mut Seen) {
         let groups = (0..sites.len()).map(|d| 1 << d).collect();
         let shares = litres.iter().map(|&w| u64::from(w)).collect();
         let mut desk = Bytes::fresh(run, e, sites.len());
-        let written = Book::holding(e, sites.len(), sites, Some(Plan { groups, shares }));
+        let written = Book::holding(e, sites.len(), sites.into(), Some(Plan { groups, shares }));
         desk.store = written.store();
         desk.table = written.table(&desk.table);
         let mut book = held(&desk.store, &desk.table);
@@ -601,18 +648,19 @@ fn round_trip(run: &mut Run, desk: &Bytes, book: &Book, seen: &mut Seen) {
 /// that row 0 refuses, whatever the buffer.
 fn lists(run: &mut Run, e: Edition, seen: &mut Seen) {
     let empty = if e == ONE { b"LS\0\0" } else { b"L2\0\0" };
-    let mut cases: Vec<(Vec<Site>, Vec<u8>)> = vec![(vec![], empty.to_vec())];
+    let mut cases: Vec<(List, Vec<u8>)> = vec![(List::default(), empty.to_vec())];
     // the order of sites and of a site's depots, equal sites, the ends of depots and litres
     if e == ONE {
-        cases.push((vec![site(0, 1, 10)], b"LS\x01\0ST\x00\x01\x0A\0".to_vec()));
+        cases.push((vec![site(0, 1, 10)].into(), b"LS\x01\0ST\x00\x01\x0A\0".to_vec()));
         cases.push((
-            vec![site(63, 0, 65_535), site(0, 63, 1), site(0, 63, 1), site(63, 63, 256), site(5, 5, 255)],
+            vec![site(63, 0, 65_535), site(0, 63, 1), site(0, 63, 1), site(63, 63, 256), site(5, 5, 255)].into(),
             b"LS\x05\0ST\x3F\x00\xFF\xFFST\x00\x3F\x01\0ST\x00\x3F\x01\0ST\x3F\x3F\0\x01ST\x05\x05\xFF\0".to_vec(),
         ));
     } else {
-        cases.push((vec![site(0, 1, 70_000)], b"L2\x01\0S2\x00\x01\x70\x11\x01\0".to_vec()));
+        cases.push((vec![site(0, 1, 70_000)].into(), b"L2\x01\0S2\x00\x01\x70\x11\x01\0".to_vec()));
         cases.push((
-            vec![site(63, 0, u32::MAX), site(0, 63, 1), site(0, 63, 1), site(63, 63, 65_536), site(5, 5, 0x0102_0304)],
+            vec![site(63, 0, u32::MAX), site(0, 63, 1), site(0, 63, 1), site(63, 63, 65_536), site(5, 5, 0x0102_0304)]
+                .into(),
             b"L2\x05\0S2\x3F\x00\xFF\xFF\xFF\xFFS2\x00\x3F\x01\0\0\0S2\x00\x3F\x01\0\0\0S2\x3F\x3F\0\0\x01\0S2\x05\x05\x04\x03\x02\x01"
                 .to_vec(),
         ));
@@ -628,66 +676,82 @@ fn lists(run: &mut Run, e: Edition, seen: &mut Seen) {
                 bytes.extend([(s.litres / 65_536 % 256) as u8, (s.litres / 16_777_216) as u8]);
             }
         }
-        cases.push((sites, bytes));
+        cases.push((sites.into(), bytes));
+    }
+    // the same with rolls behind them: crews where depots are named, also by the site that is added, and 0 to 9 elsewhere
+    if e == TWO {
+        for (list, bytes) in cases.clone() {
+            let mut roll: [u8; 64] = std::array::from_fn(|d| (d % 10) as u8);
+            for d in list.iter().flat_map(|s| [s.first, s.second]).chain([62, 7]) {
+                roll[usize::from(d)] = 1 + d % 9;
+            }
+            let bytes = [&bytes[..], b"DR", &roll].concat();
+            cases.push((List { roll: Some(roll), ..list }, bytes));
+        }
     }
     // litres whose bytes all differ: in edition 1 the low two of them
     let (changed_to, added) = (Litres::of(e, 0x89AB_CDEF), Litres::of(e, 0x5678_1234));
     let width = if e == ONE { 2 } else { 4 };
-    for (sites, bytes) in cases {
-        let length = bytes.len();
-        if length != 4 + (4 + width) * sites.len() {
+    for (list, bytes) in cases {
+        // where the sites end, and a roll begins
+        let (length, end) = (bytes.len(), 4 + (4 + width) * list.len());
+        if length != end + if list.roll.is_some() { 66 } else { 0 } {
             run.fail("a list written here has another length", &[("list", &bytes)]);
         }
-        for places in [sites.len(), sites.len() + 3] {
+        for places in [list.len(), list.len() + 3] {
             let mut desk = Bytes::fresh(run, e, places);
             let mut book = Ok(Book::new(e, places));
-            let plan = plan_bytes(e, &run.plan(&sites));
+            let plan = plan_bytes(e, &run.plan(&list));
             // before any list
             write_out(run, &mut desk, &mut book, empty, seen);
             call(run, &mut desk, &mut book, &Call::Load(bytes.clone()), seen);
             write_out(run, &mut desk, &mut book, &bytes, seen);
             call(run, &mut desk, &mut book, &Call::Propose(plan), seen);
             write_out(run, &mut desk, &mut book, &bytes, seen);
-            corrupted(run, &desk, sites.len(), seen);
+            corrupted(run, &desk, list.len(), length, seen);
             // refused calls: the same list
             call(run, &mut desk, &mut book, &Call::Load(bytes[..length - 1].to_vec()), seen);
-            call(run, &mut desk, &mut book, &Call::Change(sites.len(), Litres::of(e, 1)), seen);
+            call(run, &mut desk, &mut book, &Call::Change(list.len(), Litres::of(e, 1)), seen);
             call(run, &mut desk, &mut book, &Call::Add(64, 0, Litres::of(e, 1)), seen);
             write_out(run, &mut desk, &mut book, &bytes, seen);
-            if !sites.is_empty() {
+            if !list.is_empty() {
                 let mut changed = bytes.clone();
-                changed[length - width..].copy_from_slice(&[0xEF, 0xCD, 0xAB, 0x89][..width]);
-                call(run, &mut desk, &mut book, &Call::Change(sites.len() - 1, changed_to), seen);
+                changed[end - width..end].copy_from_slice(&[0xEF, 0xCD, 0xAB, 0x89][..width]);
+                call(run, &mut desk, &mut book, &Call::Change(list.len() - 1, changed_to), seen);
                 write_out(run, &mut desk, &mut book, &changed, seen);
             }
             let mut more = list_bytes(e, &book.as_ref().expect("a book").list);
             call(run, &mut desk, &mut book, &Call::Add(62, 7, added), seen);
-            if sites.len() < places.min(512) {
-                more.extend([marks[2], marks[3], 0x3E, 0x07]);
-                more.extend(&[0x34, 0x12, 0x78, 0x56][..width]);
-                more[2..4].copy_from_slice(&(sites.len() as u16 + 1).to_le_bytes());
+            if list.len() < places.min(512) {
+                let site = [&[marks[2], marks[3], 0x3E, 0x07], &[0x34, 0x12, 0x78, 0x56][..width]].concat();
+                more.splice(end..end, site);
+                more[2..4].copy_from_slice(&(list.len() as u16 + 1).to_le_bytes());
             }
             write_out(run, &mut desk, &mut book, &more, seen);
         }
     }
 }
 
-/// The list written out into buffers of its length, one byte fewer, one more, fewer and more by a record, none, around
-/// a head, and of the longest list; `bytes` is what is to be written, by the book too.
+/// The list written out into buffers of its length, one byte fewer, one more, fewer and more by a record and by a roll,
+/// none, around a head, and of the longest list; `bytes` is what is to be written, by the book too.
 fn write_out(run: &mut Run, desk: &mut Bytes, book: &mut Result<Book, Refusal>, bytes: &[u8], seen: &mut Seen) {
     let (n, record) = (bytes.len(), desk.edition().site_bytes);
-    let longest = desk.edition().list_length(512);
-    for room in [n, n - 1, n + 1, n.saturating_sub(record), n + record, n - 4, 0, 1, 3, 4, longest] {
+    let longest = desk.edition().longest_list();
+    let rolls = [n.saturating_sub(ROLL_BYTES), n + ROLL_BYTES];
+    for room in
+        [n, n - 1, n + 1, n.saturating_sub(record), n + record, n - 4, 0, 1, 3, 4, longest].into_iter().chain(rolls)
+    {
         let wanted = if room < n { Err(Refusal::Row(20)) } else { Ok(Told::Wrote(bytes.to_vec())) };
         expect(run, desk, book, &Call::List(room), wanted, seen);
     }
 }
 
 /// Row 0 before row 20, on a desk of so many sites: the count of sites, whether a plan is held, the groups, a share, a
-/// depot and litres of the table, or a table cut off; into buffers of the list's length, one byte fewer and none.
-fn corrupted(run: &mut Run, desk: &Bytes, count: usize, seen: &mut Seen) {
+/// depot and litres of the table, a table cut off, or the roll; into buffers of the list's length, one byte fewer and
+/// none.
+fn corrupted(run: &mut Run, desk: &Bytes, count: usize, length: usize, seen: &mut Seen) {
     let e = desk.edition();
-    let (length, end) = (e.list_length(count), e.place_bytes() * count);
+    let end = e.place_bytes() * count;
     let mut desks = vec![];
     let mut damaged = |change: &dyn Fn(&mut Bytes)| {
         let mut other = desk.clone();
@@ -716,6 +780,27 @@ fn corrupted(run: &mut Run, desk: &Bytes, count: usize, seen: &mut Seen) {
     if count > 0 && e == TWO {
         // above the 38 bits that w x q can have
         damaged(&|d| d.store[e.store_share(0) + 4] = 0xFF);
+    }
+    if e.has_rolls() {
+        let roll = e.store_roll();
+        damaged(&|d| d.store[roll] = 2);
+        damaged(&|d| d.store[roll + 7] = 1);
+        damaged(&|d| (d.store[roll], d.store[roll + 8]) = (1, 10));
+        damaged(&|d| (d.store[roll], d.store[roll + 71]) = (1, 255));
+    }
+    if count > 0 && e.has_rolls() {
+        // a named depot without crews
+        let roll = e.store_roll();
+        damaged(&|d| {
+            d.store[roll] = 1;
+            d.store[roll + 8..].fill(9);
+            d.store[roll + 8 + usize::from(d.table[0])] = 0;
+        });
+        damaged(&|d| {
+            d.store[roll] = 1;
+            d.store[roll + 8..].fill(1);
+            d.store[roll + 8 + usize::from(d.table[end - e.place_bytes() + 1])] = 0;
+        });
     }
     for mut desk in desks {
         let mut book = held(&desk.store, &desk.table);
@@ -812,7 +897,7 @@ fn other_edition(run: &mut Run, e: Edition, seen: &mut Seen) {
     let headed = |mark: &[u8; 2], bytes: &[u8]| [&mark[..], &bytes[2..]].concat();
     let lists = [
         other_list.clone(),
-        list_bytes(other, &[]),
+        list_bytes(other, &List::default()),
         headed(&other.list, &list),
         headed(b"L3", &list),
         headed(b"L1", &list),
@@ -836,7 +921,7 @@ fn other_edition(run: &mut Run, e: Edition, seen: &mut Seen) {
     // on a corrupt store a load tries its own rows
     let mut corrupt = desk.clone();
     corrupt.store[..8].fill(0xFF);
-    for list in [other_list.clone(), list_bytes(other, &[]), headed(b"L3", &list), list] {
+    for list in [other_list.clone(), list_bytes(other, &List::default()), headed(b"L3", &list), list] {
         let mut book = held(&corrupt.store, &corrupt.table);
         call(run, &mut corrupt, &mut book, &Call::Load(list), seen);
     }
@@ -845,23 +930,27 @@ fn other_edition(run: &mut Run, e: Edition, seen: &mut Seen) {
     expect(run, &mut desk, &mut book, &Call::Load(records), Err(Refusal::Row(3)), seen);
     let records = headed(&e.plan, &other_plan);
     expect(run, &mut desk, &mut book, &Call::Propose(records), Err(Refusal::Row(10)), seen);
-    let records = headed(&e.list, &list_bytes(other, &[]));
+    let records = headed(&e.list, &list_bytes(other, &List::default()));
     expect(run, &mut desk, &mut book, &Call::Load(records), Ok(Told::Done), seen);
     let records = headed(&e.plan, &plan_bytes(other, &no_plan()));
     expect(run, &mut desk, &mut book, &Call::Propose(records), Ok(Told::Done), seen);
 }
 
-/// A desk with 512 sites of the most litres, in a table that has room for more: no site can be added.
+/// A desk with 512 sites of the most litres, in a table that has room for more: no site can be added. In edition 2 with
+/// nine crews at each depot too.
 fn full(run: &mut Run, e: Edition, seen: &mut Seen) {
     let most = e.most();
     // any pairs; own sites of every depot; one depot alone
     let pairs: Vec<Site> = (0..512).map(|i| site((i % 64) as u8, (i % 63) as u8, most)).collect();
-    for (places, sites) in [(512, pairs), (513, known::own_sites(most)), (600, vec![own(63, most); 512])] {
+    let lists = [(512, pairs), (513, known::own_sites(most)), (600, vec![own(63, most); 512])];
+    let rolls = if e.has_rolls() { vec![None, Some([9; 64])] } else { vec![None] };
+    for ((places, sites), roll) in lists.iter().flat_map(|list| rolls.iter().map(move |roll| (list, roll))) {
+        let (places, list) = (*places, List { sites: sites.clone(), roll: *roll });
         let mut desk = Bytes::fresh(run, e, places);
         let mut book = Ok(Book::new(e, places));
-        let plan = plan_bytes(e, &run.plan(&sites));
+        let plan = plan_bytes(e, &run.plan(&list));
         let calls = [
-            Call::Load(list_bytes(e, &sites)),
+            Call::Load(list_bytes(e, &list)),
             Call::Add(0, 0, Litres::of(e, 1)),
             Call::Propose(plan),
             Call::Share(511),
@@ -872,8 +961,8 @@ fn full(run: &mut Run, e: Edition, seen: &mut Seen) {
             Call::Written(e.plan_length(64, 512)),
             Call::AtLeast(524_280),
             Call::AtLeast(u32::MAX),
-            Call::List(e.list_length(512)),
-            Call::List(e.list_length(512) - 1),
+            Call::List(list.length(e)),
+            Call::List(list.length(e) - 1),
             Call::Add(0, 0, Litres::of(e, 1)),
             Call::Change(511, Litres::of(e, most)),
             Call::Share(511),
@@ -885,25 +974,140 @@ fn full(run: &mut Run, e: Edition, seen: &mut Seen) {
 }
 
 /// The largest difference and the least: depot 0 by itself with 480 sites of the most litres, and 63 depots with one litre
-/// each from the other 32 sites.
+/// each from the other 32 sites; in edition 2 also with nine crews at each of the 63 and one at depot 0, and at all.
 fn differences(run: &mut Run, e: Edition, seen: &mut Seen) {
     let mut sites = vec![own(0, e.most()); 480];
     sites.extend((0..31).map(|k| site(2 * k + 1, 2 * k + 2, 2)));
     sites.push(own(63, 1));
-    let mut desk = Bytes::fresh(run, e, 512);
-    let mut book = Ok(Book::new(e, 512));
-    let plan = plan_bytes(e, &run.plan(&sites));
-    for next in [Call::Load(list_bytes(e, &sites)), Call::Propose(plan)] {
-        expect(run, &mut desk, &mut book, &next, Ok(Told::Done), seen);
+    let mostly_nine = std::array::from_fn(|d| if d == 0 { 1 } else { 9 });
+    // a roll, and q of the two groups
+    let cases = [(None, 1, 63), (Some(mostly_nine), 1, 567), (Some([9; 64]), 9, 567)];
+    for (roll, p, q) in cases.into_iter().take(if e.has_rolls() { 3 } else { 1 }) {
+        let list = List { sites: sites.clone(), roll };
+        let mut desk = Bytes::fresh(run, e, 512);
+        let mut book = Ok(Book::new(e, 512));
+        let plan = plan_bytes(e, &run.plan(&list));
+        for next in [Call::Load(list_bytes(e, &list)), Call::Propose(plan)] {
+            expect(run, &mut desk, &mut book, &next, Ok(Told::Done), seen);
+        }
+        let litres = 480 * u64::from(e.most());
+        let difference = (q * litres) as i64 - 63 * p as i64;
+        for (a, b, difference, divisor) in
+            [(0, 63, difference, p * q), (62, 0, -difference, p * q), (0, 0, 0, p * p), (1, 63, 0, q * q)]
+        {
+            let told = Told::Difference(difference, divisor);
+            expect(run, &mut desk, &mut book, &Call::Difference(a, b), Ok(told), seen);
+        }
+        expect(run, &mut desk, &mut book, &Call::Depot(0), Ok(Told::Figures(litres, p)), seen);
+        expect(run, &mut desk, &mut book, &Call::Depot(63), Ok(Told::Figures(63, q)), seen);
     }
-    let litres = 480 * u64::from(e.most());
-    let difference = 63 * litres as i64 - 63;
-    for (a, b, difference, divisor) in
-        [(0, 63, difference, 63), (62, 0, -difference, 63), (0, 0, 0, 1), (1, 63, 0, 63 * 63)]
-    {
-        let told = Told::Difference(difference, divisor);
-        expect(run, &mut desk, &mut book, &Call::Difference(a, b), Ok(told), seen);
+}
+
+/// A store of edition 2 keeps the roll, or the lack of one, of the list last loaded: an added site and a change leave it, a
+/// load replaces it, refused calls and questions leave it too. The bytes of the store are worked out here.
+fn rolls(run: &mut Run, seen: &mut Seen) {
+    let e = TWO;
+    let crews = known::roll(&[(0, 3), (1, 1), (5, 9)]);
+    let (bare, plain) = known::t(e);
+    let list = [&bare[..], &roll_bytes(&crews)].concat();
+    let mut desk = Bytes::fresh(run, e, 3);
+    let mut book = Ok(Book::new(e, 3));
+    let done = || Ok(Told::Done);
+    let refused = |row| Err(Refusal::Row(row));
+    let kept = |run: &mut Run, desk: &Bytes, there: u8, crews: &[u8; 64]| {
+        if desk.store[4_632..] != [&[there, 0, 0, 0, 0, 0, 0, 0][..], crews].concat() {
+            run.fail("the store's roll is another", &[("store", &desk.store)]);
+        }
+    };
+    // without a roll any depot may be named
+    expect(run, &mut desk, &mut book, &Call::Add(63, 7, Litres::of(e, 1)), done(), seen);
+    kept(run, &desk, 0, &[0; 64]);
+    let plan = plan_bytes(e, &Plan { groups: vec![3], shares: vec![30] });
+    let steps: Vec<(Call, Result<Told, Refusal>)> = vec![
+        (Call::Load(list.clone()), done()),
+        (Call::Depot(0), refused(17)),
+        (Call::List(list.len()), Ok(Told::Wrote(list.clone()))),
+        (Call::List(bare.len()), refused(20)),
+        // the plan that passes without the roll, and the one that passes with it
+        (Call::Propose(plain.clone()), refused(15)),
+        (Call::Propose(plan.clone()), done()),
+        (Call::Share(0), Ok(Told::Figures(30, 40))),
+        (Call::Depot(0), Ok(Told::Figures(10, 4))),
+        (Call::Depot(1), Ok(Told::Figures(10, 4))),
+        // crews and no site: not listed
+        (Call::Depot(5), refused(19)),
+        (Call::Difference(0, 1), Ok(Told::Difference(0, 16))),
+        (Call::AtLeast(2), Ok(Told::Depots(3))),
+        (Call::AtLeast(3), Ok(Told::Depots(0))),
+        (Call::Written(25), Ok(Told::Wrote(plan.clone()))),
+        // row 23 after rows 2, 5 and 6
+        (Call::Add(0, 2, Litres::of(e, 1)), refused(23)),
+        (Call::Add(2, 0, Litres::of(e, 1)), refused(23)),
+        (Call::Add(63, 63, Litres::of(e, 1)), refused(23)),
+        (Call::Add(2, 64, Litres::of(e, 0)), refused(5)),
+        (Call::Add(2, 2, Litres::of(e, 0)), refused(6)),
+        (Call::Load([&bare[..], &roll_bytes(&known::roll(&[(0, 10)]))].concat()), refused(22)),
+        (Call::Load([&bare[..], &roll_bytes(&known::roll(&[(0, 9)]))].concat()), refused(23)),
+        (Call::Share(0), Ok(Told::Figures(30, 40))),
+        // both keep the roll and drop the plan
+        (Call::Change(0, Litres::of(e, 11)), done()),
+        (Call::Share(0), refused(17)),
+        (Call::Add(5, 0, Litres::of(e, 90)), done()),
+        (Call::Add(2, 2, Litres::of(e, 1)), refused(23)),
+        (Call::Add(5, 5, Litres::of(e, 1)), done()),
+        (Call::Add(2, 2, Litres::of(e, 1)), refused(2)),
+        (
+            Call::List(28 + 66),
+            Ok(Told::Wrote(
+                [&b"L2\x03\0S2\x00\x01\x0B\0\0\0S2\x05\x00\x5A\0\0\0S2\x05\x05\x01\0\0\0DR"[..], &crews].concat(),
+            )),
+        ),
+    ];
+    for (next, wanted) in steps {
+        expect(run, &mut desk, &mut book, &next, wanted, seen);
+        kept(run, &desk, 1, &crews);
     }
-    expect(run, &mut desk, &mut book, &Call::Depot(0), Ok(Told::Figures(litres, 1)), seen);
-    expect(run, &mut desk, &mut book, &Call::Depot(63), Ok(Told::Figures(63, 63)), seen);
+    // a load without a roll clears it, whatever is held; then one with another
+    expect(run, &mut desk, &mut book, &Call::Load(bare.clone()), done(), seen);
+    kept(run, &desk, 0, &[0; 64]);
+    expect(run, &mut desk, &mut book, &Call::Propose(plain), done(), seen);
+    expect(run, &mut desk, &mut book, &Call::Depot(0), Ok(Told::Figures(10, 2)), seen);
+    let nine = [&bare[..], &roll_bytes(&[9; 64])].concat();
+    expect(run, &mut desk, &mut book, &Call::Load(nine), done(), seen);
+    kept(run, &desk, 1, &[9; 64]);
+    // a list without sites may have one
+    let none = [&list_bytes(e, &List::default())[..], &roll_bytes(&[0; 64])].concat();
+    expect(run, &mut desk, &mut book, &Call::Load(none.clone()), done(), seen);
+    kept(run, &desk, 1, &[0; 64]);
+    expect(run, &mut desk, &mut book, &Call::Propose(plan_bytes(e, &no_plan())), done(), seen);
+    expect(run, &mut desk, &mut book, &Call::Add(0, 0, Litres::of(e, 1)), refused(23), seen);
+    expect(run, &mut desk, &mut book, &Call::List(none.len()), Ok(Told::Wrote(none)), seen);
+}
+
+/// Any bytes beside no roll: nobody looks at them, a change, an added site and a proposal leave them, a load clears them.
+fn beside(run: &mut Run, seen: &mut Seen) {
+    let (list, plan, mut desk, _) = holding_t(run, TWO, seen);
+    let junk = run.junk(64);
+    let at = TWO.store_roll() + 8;
+    desk.store[at..].copy_from_slice(&junk);
+    let mut book = held(&desk.store, &desk.table);
+    let litres = |figure| Litres::of(TWO, figure);
+    let calls = [
+        (Call::Depot(0), Ok(Told::Figures(10, 2))),
+        (Call::List(list.len()), Ok(Told::Wrote(list.clone()))),
+        (Call::Change(0, litres(10)), Ok(Told::Done)),
+        (Call::Propose(plan), Ok(Told::Done)),
+        (Call::Add(40, 41, litres(5)), Ok(Told::Done)),
+        (Call::Load(vec![]), Err(Refusal::Row(1))),
+    ];
+    for (next, wanted) in calls {
+        expect(run, &mut desk, &mut book, &next, wanted, seen);
+        if desk.store[at..] != junk {
+            run.fail("what stands beside no roll is changed", &[("store", &desk.store)]);
+        }
+    }
+    expect(run, &mut desk, &mut book, &Call::Load(list), Ok(Told::Done), seen);
+    if desk.store[at - 8..] != [0; 72] {
+        run.fail("a load without a roll does not clear its bytes", &[("store", &desk.store)]);
+    }
 }

@@ -1,6 +1,6 @@
 //! Families of lists, from small to the largest (512 sites, 64 depots).
 
-use crate::records::{site, Edition, Site, ONE};
+use crate::records::{listed, members, site, Edition, List, Roll, Site, ONE};
 use crate::rng::Rng;
 
 /// How large a list is to be. Litres run from 1 to `litres`; some families have up to the edition's most.
@@ -210,6 +210,33 @@ pub fn scattered(rng: &mut Rng, sites: &[Site]) -> Vec<Site> {
         .collect();
     rng.shuffle(&mut renamed);
     renamed
+}
+
+/// The sites as a list of an edition: in edition 2 half of them have a roll.
+pub fn rolled(rng: &mut Rng, edition: Edition, sites: Vec<Site>) -> List {
+    let roll = (edition.has_rolls() && rng.percent(50)).then(|| roll(rng, &sites));
+    List { sites, roll }
+}
+
+/// A roll that rows 22 and 23 let through with these sites: 1 to 9 crews for each depot that they name; any others have
+/// none, some, or as many.
+pub fn roll(rng: &mut Rng, sites: &[Site]) -> Roll {
+    let named = listed(sites);
+    let (one, other) = (rng.from_to(1, 9) as u8, rng.below(10) as u8);
+    let odd = members(named).get(rng.below(64)).copied();
+    let kind = rng.below(8);
+    std::array::from_fn(|d| match kind {
+        // as without a roll
+        0 => (named >> d & 1) as u8,
+        1 => 9,
+        // one depot with other crews
+        2 if Some(d) == odd => 10 - one,
+        2 => one,
+        _ if named >> d & 1 == 1 => rng.from_to(1, if kind == 3 { 2 } else { 9 }) as u8,
+        3 | 4 => 0,
+        5 => other,
+        _ => rng.below(10) as u8,
+    })
 }
 
 /// Two lists on different depots (the second's behind the first's), one after the other.

@@ -1,21 +1,32 @@
 //! The lists of document 01 with known plans, and its examples of refusals, in either edition; and lists that need
-//! edition 2.
+//! edition 2, with rolls among them.
 
-use crate::records::{list_bytes, plan_bytes, site, Edition, Plan, Site, ONE, TWO};
+use crate::records::{list_bytes, plan_bytes, roll_bytes, site, Edition, List, Plan, Roll, Site, ONE, TWO};
 
 /// A list, its groups, and shares that pass where the document gives them.
 pub struct Known {
-    pub sites: Vec<Site>,
+    pub list: List,
     pub groups: Vec<u64>,
     pub shares: Option<Vec<u64>>,
 }
 
 fn known(sites: &[(u8, u8, u32)], groups: &[u64], shares: &[u64]) -> Known {
-    Known {
-        sites: sites.iter().map(|&(a, b, w)| site(a, b, w)).collect(),
-        groups: groups.to_vec(),
-        shares: Some(shares.to_vec()),
+    let sites: Vec<Site> = sites.iter().map(|&(a, b, w)| site(a, b, w)).collect();
+    Known { list: sites.into(), groups: groups.to_vec(), shares: Some(shares.to_vec()) }
+}
+
+/// The same with a roll.
+fn crewed(known: Known, crews: &[(usize, u8)]) -> Known {
+    Known { list: List { roll: Some(roll(crews)), ..known.list }, ..known }
+}
+
+/// A roll with crews at these depots and at no other.
+pub fn roll(crews: &[(usize, u8)]) -> Roll {
+    let mut roll = [0; 64];
+    for &(depot, crews) in crews {
+        roll[depot] = crews;
     }
+    roll
 }
 
 /// T is the list of one site (0,1) of 10.
@@ -63,8 +74,13 @@ pub fn lists(e: Edition) -> Vec<Known> {
         known(&[(0, 1, 9), (1, 2, 1)], &[3, 4], &[9, 0]),
         known(&[(0, 1, 1), (1, 2, 1), (0, 2, 1)], &[7], &[3, 3, 0]),
     ];
-    lists.push(Known { sites: nine(), groups: vec![31, 32], shares: None });
-    lists.push(Known { sites: own_sites(65_535), groups: vec![u64::MAX], shares: Some(vec![4_194_240; 512]) });
+    let all = |litres: u32, share: u64| Known {
+        list: own_sites(litres).into(),
+        groups: vec![u64::MAX],
+        shares: Some(vec![share; 512]),
+    };
+    lists.push(Known { list: nine().into(), groups: vec![31, 32], shares: None });
+    lists.push(all(65_535, 4_194_240));
     if e == TWO {
         lists.extend([
             known(&[(0, 1, 70_000)], &[3], &[70_000]),
@@ -81,14 +97,39 @@ pub fn lists(e: Edition) -> Vec<Known> {
             known(&[(0, 0, 4_294_967_295), (1, 1, 4_294_967_294)], &[1, 2], &[4_294_967_295, 4_294_967_294]),
             known(&[(0, 0, 4_294_967_295), (0, 1, 4_294_967_295)], &[3], &[8_589_934_590, 0]),
             known(&[(0, 0, 4_294_967_294), (0, 1, 4_294_967_295)], &[3], &[8_589_934_588, 1]),
-            Known { sites: own_sites(4_294_967_295), groups: vec![u64::MAX], shares: Some(vec![274_877_906_880; 512]) },
+            all(4_294_967_295, 274_877_906_880),
             // one depot with all that a list can have: W 2,199,023,255,040
             Known {
-                sites: vec![site(5, 5, 4_294_967_295); 512],
+                list: vec![site(5, 5, 4_294_967_295); 512].into(),
                 groups: vec![32],
                 shares: Some(vec![4_294_967_295; 512]),
             },
         ]);
+        // with rolls: a depot's load is its crews times W
+        lists.extend([
+            crewed(known(&[], &[], &[]), &[]),
+            crewed(known(&[], &[], &[]), &[(0, 1), (63, 9)]),
+            // a roll of ones: as without
+            crewed(known(&[(0, 1, 10)], &[3], &[10]), &[(0, 1), (1, 1)]),
+            crewed(known(&[(0, 1, 9), (1, 2, 1)], &[3, 4], &[9, 0]), &[(0, 1), (1, 1), (2, 1)]),
+            // q 4: 36 of 48 and 12; q 18: half each
+            crewed(known(&[(0, 1, 12)], &[3], &[36]), &[(0, 3), (1, 1)]),
+            crewed(known(&[(0, 1, 10)], &[3], &[90]), &[(0, 9), (1, 9)]),
+            // equal litres per crew, and not
+            crewed(known(&[(0, 0, 4), (1, 1, 8)], &[3], &[12, 24]), &[(0, 1), (1, 2)]),
+            crewed(known(&[(0, 0, 4), (1, 1, 8)], &[1, 2], &[4, 24]), &[(0, 1), (1, 3)]),
+            crewed(known(&[(0, 0, 4), (1, 1, 4)], &[2, 1], &[8, 4]), &[(0, 2), (1, 1)]),
+            // crews at a depot that no site names: it is not listed
+            crewed(known(&[(5, 5, 7)], &[32], &[14]), &[(5, 2), (6, 9)]),
+            // crews at one depot alone, which has all sites
+            crewed(known(&[(63, 63, 4_294_967_295), (63, 63, 1)], &[1 << 63], &[38_654_705_655, 9]), &[(63, 9)]),
+            // by crews other groups: 10/19 is more than 9/18
+            crewed(known(&[(0, 1, 9), (1, 2, 1)], &[7], &[90, 9]), &[(0, 9), (1, 9), (2, 1)]),
+            crewed(known(&[(0, 1, 9), (1, 2, 1)], &[3, 4], &[9, 0]), &[(0, 1), (1, 1), (2, 9)]),
+        ]);
+        // the greatest q, 576, with W of 41 bits
+        let nine_each = all(4_294_967_295, 2_473_901_161_920);
+        lists.push(Known { list: List { roll: Some([9; 64]), ..nine_each.list }, ..nine_each });
     }
     lists
 }
@@ -99,14 +140,16 @@ fn changed(bytes: &[u8], place: usize, with: &[u8]) -> Vec<u8> {
     changed
 }
 
-/// The examples of rows 1 to 16: row, list, plan.
+/// The examples of rows 1 to 16, and of rows 22 and 23: row, list, plan.
 pub fn refusals(e: Edition) -> Vec<(u8, Vec<u8>, Vec<u8>)> {
     let (t, p) = self::t(e);
     let (_, of_other) = self::t(e.other());
     let head = |mark: [u8; 2], rest: &[u8]| [&mark[..], rest].concat();
     let plan =
         |groups: &[u64], shares: &[u64]| plan_bytes(e, &Plan { groups: groups.to_vec(), shares: shares.to_vec() });
-    vec![
+    // T with a roll
+    let rolled = |crews: &[(usize, u8)]| [t.clone(), roll_bytes(&roll(crews))].concat();
+    let mut examples = vec![
         (1, vec![], p.clone()),
         (1, changed(&t, 0, &[0x4C, 0x33]), p.clone()),
         (1, changed(&t, 0, &[0x4C, 0x31]), p.clone()),
@@ -134,9 +177,58 @@ pub fn refusals(e: Edition) -> Vec<(u8, Vec<u8>, Vec<u8>)> {
         (13, t.clone(), plan(&[1], &[10])),
         (14, t.clone(), plan(&[3], &[21])),
         (15, t.clone(), plan(&[3], &[11])),
-        (16, list_bytes(e, &[site(0, 0, 4), site(1, 1, 4)]), plan(&[1, 2], &[4, 4])),
+        (16, list_bytes(e, &vec![site(0, 0, 4), site(1, 1, 4)].into()), plan(&[1, 2], &[4, 4])),
         // the innermost core {0,1,2,3} of the nine sites first: level, 6/4 and then 2/1
-        (16, list_bytes(e, &nine()), plan(&[15, 16, 32], &[4, 2, 0, 4, 2, 4, 0, 0, 0])),
-        (0, t, p),
-    ]
+        (16, list_bytes(e, &nine().into()), plan(&[15, 16, 32], &[4, 2, 0, 4, 2, 4, 0, 0, 0])),
+        (0, t.clone(), p.clone()),
+    ];
+    let ones = rolled(&[(0, 1), (1, 1)]);
+    if e == ONE {
+        examples.extend([(3, ones.clone(), p.clone()), (3, changed(&ones, 0, &TWO.list), p.clone())]);
+        return examples;
+    }
+    let own = |litres: [u32; 2], crews: &[(usize, u8)]| {
+        let sites = vec![site(0, 0, litres[0]), site(1, 1, litres[1])];
+        list_bytes(e, &List { sites, roll: Some(roll(crews)) })
+    };
+    examples.extend([
+        (0, ones.clone(), p.clone()),
+        (1, changed(&ones, 0, b"L3"), p.clone()),
+        (3, ones[..ones.len() - 1].to_vec(), p.clone()),
+        (3, [ones.clone(), vec![0]].concat(), p.clone()),
+        (3, [ones.clone(), roll_bytes(&[1; 64])].concat(), p.clone()),
+        (3, ones[..t.len() + 2].to_vec(), p.clone()),
+        (3, changed(&ones, 2, &[2]), p.clone()),
+        (4, changed(&ones, t.len(), &[0x45]), p.clone()),
+        (4, changed(&ones, t.len() + 1, &[0x53]), p.clone()),
+        (4, changed(&ones, t.len(), b"RD"), p.clone()),
+        // a row of the sites before those of the roll
+        (5, changed(&rolled(&[(0, 10)]), 7, &[0x40]), p.clone()),
+        (6, changed(&rolled(&[(0, 10)]), 8, &[0x00]), p.clone()),
+        (22, rolled(&[(0, 10), (1, 1)]), p.clone()),
+        (22, rolled(&[(0, 255), (1, 1)]), p.clone()),
+        (22, rolled(&[(0, 1), (1, 1), (63, 10)]), p.clone()),
+        (22, rolled(&[(0, 10)]), p.clone()),
+        (23, rolled(&[(0, 1)]), p.clone()),
+        (23, rolled(&[(1, 9)]), p.clone()),
+        (23, rolled(&[]), p.clone()),
+        // before the rows of the plan
+        (22, rolled(&[(0, 1), (1, 16)]), vec![]),
+        (23, rolled(&[(0, 1)]), vec![]),
+        (7, ones.clone(), vec![]),
+        // crews at a depot that no site names
+        (13, rolled(&[(0, 1), (1, 1), (2, 1)]), plan(&[3, 4], &[10])),
+        (13, rolled(&[(0, 1), (1, 1), (2, 1)]), plan(&[7], &[10])),
+        // q is 4: 40 in all, 30 for depot 0
+        (0, rolled(&[(0, 3), (1, 1)]), plan(&[3], &[30])),
+        (14, rolled(&[(0, 3), (1, 1)]), plan(&[3], &[41])),
+        (15, rolled(&[(0, 3), (1, 1)]), plan(&[3], &[20])),
+        (15, rolled(&[(0, 3), (1, 1)]), p.clone()),
+        // an own site is whole at 8 x 2
+        (14, own([4, 8], &[(0, 1), (1, 2)]), plan(&[1, 2], &[4, 8])),
+        // 4/1 and 8/2 are equal; 4/2 is below 4/1
+        (16, own([4, 8], &[(0, 1), (1, 2)]), plan(&[1, 2], &[4, 16])),
+        (16, own([4, 4], &[(0, 2), (1, 1)]), plan(&[1, 2], &[8, 4])),
+    ]);
+    examples
 }

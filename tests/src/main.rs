@@ -6,19 +6,19 @@
 //! networks with all plans, the largest lists, every pair of rows. Then random cases, N in all; lists and plans that are
 //! converted, N / 4 at random beside what is fixed; desk calls, a quarter as many and at least 60,000, in both editions;
 //! and as many around steps of desks of edition 1 to edition 2. The others are done in both editions too, or their cases
-//! are shared between them.
+//! are shared between them. In edition 2 lists have a roll or none.
 
 use std::time::Instant;
 
 use engine_tests::convert;
-use engine_tests::damage::{kept, reordered, spoil, Base};
+use engine_tests::damage::{kept, list_rows, reordered, rows, spoil, Base};
 use engine_tests::decompose::shares;
 use engine_tests::desk;
-use engine_tests::families::{extent, random, scattered, union, Extent, FAMILIES, LARGEST};
+use engine_tests::families::{extent, random, roll, rolled, scattered, union, Extent, FAMILIES, LARGEST};
 use engine_tests::known;
 use engine_tests::migrate;
 use engine_tests::near::{miss, next_season};
-use engine_tests::records::{list_bytes, listed, plan_bytes, site, Edition, Plan, Site, EDITIONS, ONE, TWO};
+use engine_tests::records::{list_bytes, listed, plan_bytes, site, Edition, List, Plan, Site, EDITIONS, ONE, TWO};
 use engine_tests::reference::read_plan;
 use engine_tests::run::Run;
 
@@ -80,7 +80,8 @@ fn main() {
         println!("edition {}, make, cases by row (0 makes): {}", e.number, by_row(&makes));
         let calls: [usize; desk::PLACES] = std::array::from_fn(|r| seen[n].iter().map(|calls| calls[r]).sum());
         println!("edition {}, desk, calls by row (30: success, 31: no store): {}", e.number, by_row(&calls));
-        if (0..=16).any(|r| checks[r] == 0) || [0, 1, 2, 3, 4, 5, 6, 20].iter().any(|&r: &usize| makes[r] == 0) {
+        let never = |rows: Vec<u8>, seen: &[usize]| rows.into_iter().any(|row| seen[usize::from(row)] == 0);
+        if never([vec![0], rows(e)].concat(), &checks) || never([vec![0, 20], list_rows(e)].concat(), &makes) {
             run.fail(&format!("edition {}: a row was never answered", e.number), &[]);
         }
         for (what, with_plan) in [("list alone", false), ("list and plan", true)] {
@@ -92,6 +93,7 @@ fn main() {
         }
     }
     println!("{} lists counted over all sets; {} plans judged by the definition", run.counted, run.judged);
+    println!("{} lists and plans answered alike without a roll and with one of ones", run.alike);
     println!("{} cases, {} failed, {:.0} s", run.cases, run.failed, start.elapsed().as_secs_f64());
     std::process::exit(i32::from(run.failed > 0));
 }
@@ -106,14 +108,14 @@ fn by_row(cases: &[usize]) -> String {
 fn document(run: &mut Run) {
     for e in EDITIONS {
         for known in known::lists(e) {
-            let list = list_bytes(e, &known.sites);
-            let groups = run.groups(&known.sites);
+            let list = list_bytes(e, &known.list);
+            let groups = run.groups(&known.list);
             if groups != known.groups {
                 run.fail("the groups are not the document's", &[("list", &list)]);
             }
-            let own = run.plan(&known.sites);
+            let own = run.plan(&known.list);
             run.check(&list, &plan_bytes(e, &own));
-            across(run, e, &known.sites, &own);
+            across(run, e, &known.list, &own);
             if let Some(shares) = known.shares {
                 if run.check(&list, &plan_bytes(e, &Plan { groups, shares })) != 0 {
                     run.fail("the document's plan does not pass", &[("list", &list)]);
@@ -140,8 +142,8 @@ fn document(run: &mut Run) {
 
 /// A list of an edition with the other edition's plan, and with its head alone, on the list and on the plan; and with
 /// heads of neither edition.
-fn across(run: &mut Run, e: Edition, sites: &[Site], plan: &Plan) {
-    let (list, bytes) = (list_bytes(e, sites), plan_bytes(e, plan));
+fn across(run: &mut Run, e: Edition, of: &List, plan: &Plan) {
+    let (list, bytes) = (list_bytes(e, of), plan_bytes(e, plan));
     if run.check(&list, &plan_bytes(e.other(), plan)) != 7 {
         run.fail("the other edition's plan is not refused by row 7", &[("list", &list)]);
     }
@@ -149,9 +151,9 @@ fn across(run: &mut Run, e: Edition, sites: &[Site], plan: &Plan) {
     if run.check(&list, &headed(&bytes, e.other().plan)) != 7 {
         run.fail("the other edition's head of a plan is not refused by row 7", &[("list", &list)]);
     }
-    // without sites, the other edition's list: then row 7
+    // without sites and a roll, the other edition's list: then row 7
     let other = headed(&list, e.other().list);
-    if run.check(&other, &bytes) != if sites.is_empty() { 7 } else { 3 } {
+    if run.check(&other, &bytes) != if list.len() == 4 { 7 } else { 3 } {
         run.fail("the other edition's head of a list is answered otherwise", &[("list", &other)]);
     }
     run.make(&other, &[], bytes.len());
@@ -165,14 +167,15 @@ fn across(run: &mut Run, e: Edition, sites: &[Site], plan: &Plan) {
 /// Every byte of small lists and plans changed in nine ways, every prefix, and bytes added.
 fn every_byte(run: &mut Run) {
     for e in EDITIONS {
-        let lists = known::lists(e).into_iter().map(|k| k.sites);
-        let mut small: Vec<Vec<Site>> = lists.filter(|s| s.len() < 20).collect();
+        let lists = known::lists(e).into_iter().map(|k| k.list);
+        let mut small: Vec<List> = lists.filter(|s| s.len() < 20).collect();
         for _ in 0..10 {
             let (sites, depots) = (run.rng.from_to(1, 8), run.rng.from_to(1, 6));
-            small.push(random(&mut run.rng, Extent { edition: e, sites, depots, litres: 9 }));
+            let sites = random(&mut run.rng, Extent { edition: e, sites, depots, litres: 9 });
+            small.push(rolled(&mut run.rng, e, sites));
         }
-        for sites in small {
-            let (list, plan) = (list_bytes(e, &sites), plan_bytes(e, &run.plan(&sites)));
+        for list in small {
+            let (list, plan) = (list_bytes(e, &list), plan_bytes(e, &run.plan(&list)));
             change_each(run, &list, &plan);
         }
     }
@@ -208,8 +211,8 @@ fn change_each(run: &mut Run, list: &[u8], plan: &[u8]) {
     }
 }
 
-/// All lists of at most two sites on three depots with litres 1 and 2, in each edition, each with all orders
-/// of all groupings and all shares from 0 to one too many.
+/// All lists of at most two sites on three depots with litres 1 and 2, in each edition, and in edition 2 with a roll of 1
+/// or 2 crews for each depot too, each with all orders of all groupings and all shares from 0 to one too many.
 fn all_small(run: &mut Run) {
     let mut choices = Vec::new();
     for first in 0..3 {
@@ -220,32 +223,40 @@ fn all_small(run: &mut Run) {
     let mut lists: Vec<Vec<Site>> = vec![vec![]];
     lists.extend(choices.iter().map(|&a| vec![a]));
     lists.extend(choices.iter().flat_map(|&a| choices.iter().map(move |&b| vec![a, b])));
-    for (sites, e) in lists.iter().flat_map(|sites| EDITIONS.map(|e| (sites, e))) {
-        let list = list_bytes(e, sites);
-        run.groups(sites);
-        run.make(&list, &[], ROOM);
-        let mut passed = 0;
-        for groups in orders(listed(sites)) {
-            let most = groups.iter().map(|g| u64::from(g.count_ones())).max().unwrap_or(0);
-            let mut shares = vec![0; sites.len()];
-            loop {
-                let plan = Plan { groups: groups.clone(), shares: shares.clone() };
-                passed += usize::from(run.check(&list, &plan_bytes(e, &plan)) == 0);
-                // the next choice of shares
-                let Some(i) = (0..sites.len()).find(|&i| shares[i] <= most * u64::from(sites[i].litres)) else {
-                    break;
-                };
-                shares[i] += 1;
-                shares[..i].fill(0);
-            }
-        }
-        if passed == 0 {
-            run.fail("no plan passes", &[("list", &list)]);
-        }
+    for sites in lists {
+        let crews: [u8; 64] = std::array::from_fn(|_| run.rng.from_to(1, 2) as u8);
+        all_plans(run, ONE, &sites.clone().into());
+        all_plans(run, TWO, &sites.clone().into());
+        all_plans(run, TWO, &List { sites, roll: Some(crews) });
     }
 }
 
-/// Make on all lists of three sites on four depots with litres 1 and 2, in each edition.
+/// A list with all orders of all groupings and all shares from 0 to one too many.
+fn all_plans(run: &mut Run, e: Edition, of: &List) {
+    let list = list_bytes(e, of);
+    run.groups(of);
+    run.make(&list, &[], ROOM);
+    let mut passed = 0;
+    for groups in orders(listed(of)) {
+        let most = groups.iter().map(|&g| of.size(g)).max().unwrap_or(0);
+        let mut shares = vec![0; of.len()];
+        loop {
+            let plan = Plan { groups: groups.clone(), shares: shares.clone() };
+            passed += usize::from(run.check(&list, &plan_bytes(e, &plan)) == 0);
+            // the next choice of shares
+            let Some(i) = (0..of.len()).find(|&i| shares[i] <= most * u64::from(of[i].litres)) else {
+                break;
+            };
+            shares[i] += 1;
+            shares[..i].fill(0);
+        }
+    }
+    if passed == 0 {
+        run.fail("no plan passes", &[("list", &list)]);
+    }
+}
+
+/// Make on all lists of three sites on four depots with litres 1 and 2, in each edition, and with a roll.
 fn all_lists(run: &mut Run) {
     let mut choices = Vec::new();
     for first in 0..4 {
@@ -256,9 +267,12 @@ fn all_lists(run: &mut Run) {
     for &a in &choices {
         for &b in &choices {
             for &c in &choices {
+                let list: List = vec![a, b, c].into();
                 for e in EDITIONS {
-                    run.make(&list_bytes(e, &[a, b, c]), &[], e.plan_length(4, 3));
+                    run.make(&list_bytes(e, &list), &[], e.plan_length(4, 3));
                 }
+                let crews = roll(&mut run.rng, &list);
+                run.make(&list_bytes(TWO, &List { roll: Some(crews), ..list }), &[], TWO.plan_length(4, 3));
             }
         }
     }
@@ -280,20 +294,33 @@ fn orders(set: u64) -> Vec<Vec<u64>> {
     all
 }
 
-/// The largest list of each family: its plans, near misses, damage and buffers of each kind.
+/// The largest list of each family: its plans, near misses, damage and buffers of each kind; in edition 2 also with nine
+/// crews at each depot, with any crews, and with one depot that has more than the others.
 fn largest(run: &mut Run) {
     for (_, family) in FAMILIES {
         for (edition, litres) in [(ONE, 1), (TWO, 3), (ONE, 100), (ONE, 65_535), (TWO, 65_536), (TWO, u32::MAX)] {
             let sites = family(&mut run.rng, Extent { edition, litres, ..LARGEST });
-            work_on(run, edition, &sites, 6);
+            work_on(run, edition, &sites.clone().into(), 6);
+            if edition == TWO {
+                let crews = match litres {
+                    3 => std::array::from_fn(|d| if d == 5 { 9 } else { 1 }),
+                    65_536 => roll(&mut run.rng, &sites),
+                    _ => [9; 64],
+                };
+                work_on(run, edition, &List { sites, roll: Some(crews) }, 3);
+            }
         }
     }
 }
 
-/// For every two rows of Check's, and rows 1 to 6 with 20 for Make: inputs to which both apply get the earlier.
+/// For every two rows of Check's, and those of the list with 20 for Make: inputs to which both apply get the earlier.
 fn all_pairs(run: &mut Run) {
-    let pairs: Vec<(u8, u8)> = (2..=16).flat_map(|late| (1..late).map(move |early| (early, late))).collect();
     for e in EDITIONS {
+        let rows = rows(e);
+        let pairs: Vec<(u8, u8)> = (1..rows.len())
+            .flat_map(|k| rows[..k].iter().map(move |&early| (early, k)))
+            .map(|(a, k)| (a, rows[k]))
+            .collect();
         let mut seen = vec![0; pairs.len()];
         for _ in 0..4_000 {
             let base = parts(run, e);
@@ -324,22 +351,23 @@ fn parts(run: &mut Run, edition: Edition) -> Base {
     };
     let both = union(&part(run), 4, &part(run));
     let sites = scattered(&mut run.rng, &both);
-    let plan = run.plan(&sites);
-    Base { edition, sites, plan }
+    let list = rolled(&mut run.rng, edition, sites);
+    let plan = run.plan(&list);
+    Base { edition, list, plan }
 }
 
 /// Damage for a later row and then for an earlier one. False where the base does not allow both, or where the second
 /// damage takes back some of the first.
 fn pair(run: &mut Run, base: &Base, early: u8, late: u8) -> bool {
     let e = base.edition;
-    let mut list = list_bytes(e, &base.sites);
+    let mut list = list_bytes(e, &base.list);
     let whole = [list.clone(), plan_bytes(e, &base.plan)];
     let reordered = if late == 16 { reordered(&mut run.rng, base) } else { None };
     if late == 16 && reordered.is_none() {
         return false;
     }
     let plan = reordered.unwrap_or_else(|| base.plan.clone());
-    let base = &Base { edition: e, sites: base.sites.clone(), plan };
+    let base = &Base { edition: e, list: base.list.clone(), plan };
     let mut plan = plan_bytes(e, &base.plan);
     if late != 16 && !spoil(&mut run.rng, late, base, &mut list, &mut plan) {
         return false;
@@ -354,7 +382,7 @@ fn pair(run: &mut Run, base: &Base, early: u8, late: u8) -> bool {
     if run.check(&list, &plan) != early {
         run.fail(&format!("the damage for rows {early} and {late} gives another"), &[("list", &list), ("plan", &plan)]);
     }
-    if early <= 6 {
+    if list_rows(e).contains(&early) {
         run.make(&list, &[], 0);
     }
     kept(&whole[0], &once[0], &list) && kept(&whole[1], &once[1], &plan)
@@ -377,13 +405,14 @@ fn random_list(run: &mut Run) {
         list = union(&list, depots, &family(&mut run.rng, e));
     }
     let list = scattered(&mut run.rng, &list);
+    let list = rolled(&mut run.rng, edition, list);
     work_on(run, edition, &list, 3);
 }
 
 /// The cases of one list of an edition; `times` of each kind of damage.
-fn work_on(run: &mut Run, e: Edition, sites: &[Site], times: usize) {
-    let list = list_bytes(e, sites);
-    let own = run.plan(sites);
+fn work_on(run: &mut Run, e: Edition, of: &List, times: usize) {
+    let list = list_bytes(e, of);
+    let own = run.plan(of);
     let length = plan_bytes(e, &own).len();
 
     // make: just enough room, more, one byte short, much too short
@@ -397,7 +426,7 @@ fn work_on(run: &mut Run, e: Edition, sites: &[Site], times: usize) {
     // true plans, and what is of the other edition or of neither
     run.check(&list, &made);
     run.check(&list, &plan_bytes(e, &own));
-    across(run, e, sites, &own);
+    across(run, e, of, &own);
 
     // bytes cut off, which still stand behind the record, and bytes added
     for _ in 0..times {
@@ -413,15 +442,15 @@ fn work_on(run: &mut Run, e: Edition, sites: &[Site], times: usize) {
     }
 
     // near misses, around make's own shares too
-    let (_, shares_made) = read_plan(e, &made, sites.len()).expect("a plan of the right form");
+    let (_, shares_made) = read_plan(e, &made, of.len()).expect("a plan of the right form");
     let mine = Plan { groups: own.groups.clone(), shares: shares_made };
-    if !sites.is_empty() {
+    if !of.is_empty() {
         for i in 0..2 * times {
-            let plan = miss(&mut run.rng, e, sites, if i % 2 == 0 { &own } else { &mine });
+            let plan = miss(&mut run.rng, e, of, if i % 2 == 0 { &own } else { &mine });
             run.check(&list, &plan_bytes(e, &plan));
         }
         for _ in 0..times {
-            let next = list_bytes(e, &next_season(&mut run.rng, e, sites));
+            let next = list_bytes(e, &next_season(&mut run.rng, e, of));
             run.check(&next, &made);
         }
     }
@@ -439,25 +468,27 @@ fn work_on(run: &mut Run, e: Edition, sites: &[Site], times: usize) {
     }
 
     // damage for one row, and for two
-    let base = Base { edition: e, sites: sites.to_vec(), plan: mine };
+    let base = Base { edition: e, list: of.clone(), plan: mine };
+    let rows = rows(e);
     for _ in 0..2 * times {
-        let row = run.rng.from_to(1, 15) as u8;
+        // row 16 has no damage of its own
+        let row = rows[run.rng.below(rows.len() - 1)];
         let (mut list, mut plan) = (list.clone(), made.clone());
         if spoil(&mut run.rng, row, &base, &mut list, &mut plan) && run.check(&list, &plan) != row {
             run.fail(&format!("the damage for row {row} gives another"), &[("list", &list), ("plan", &plan)]);
         }
-        if row <= 6 {
+        if list_rows(e).contains(&row) {
             run.make(&list, &[], length);
             run.make(&list, &[], 0);
         }
-        let late = run.rng.from_to(2, 16) as u8;
-        let early = run.rng.from_to(1, usize::from(late) - 1) as u8;
-        pair(run, &base, early, late);
+        let late = run.rng.from_to(1, rows.len() - 1);
+        let early = run.rng.below(late);
+        pair(run, &base, rows[early], rows[late]);
     }
 
     // the groups in another order, with level shares
     if let Some(plan) = reordered(&mut run.rng, &base) {
-        let (level, right) = shares(sites, &plan.groups);
+        let (level, right) = shares(of, &plan.groups);
         run.check(&list, &plan_bytes(e, &plan));
         if right {
             run.check(&list, &plan_bytes(e, &Plan { groups: plan.groups, shares: level }));

@@ -5,7 +5,7 @@ use crate::book::{held, Book, Call, Litres, Refusal, Told};
 use crate::desk::{self, any_call, call, expect, foreign, history, told, Bytes, Seen, DONE, LENGTHS, NO_STORE, PLACES};
 use crate::known;
 use crate::lent::{self, Lent};
-use crate::records::{list_bytes, no_plan, plan_bytes, Site, ONE, TWO};
+use crate::records::{list_bytes, no_plan, plan_bytes, List, Site, ONE, TWO};
 use crate::run::Run;
 
 /// How often a step got each row, success or no store.
@@ -305,10 +305,10 @@ fn through(
 /// The lists with known plans, with the plan and without one, into tables around the number of sites and of many places.
 fn known_lists(run: &mut Run, seen: &mut Seen, steps: &mut Steps) {
     for list in known::lists(ONE) {
-        let n = list.sites.len();
-        let own = run.plan(&list.sites);
+        let n = list.list.len();
+        let own = run.plan(&list.list);
         let plan = crate::records::Plan { groups: list.groups, shares: list.shares.unwrap_or(own.shares) };
-        let calls = [Call::Load(list_bytes(ONE, &list.sites)), Call::Propose(plan_bytes(ONE, &plan))];
+        let calls = [Call::Load(list_bytes(ONE, &list.list)), Call::Propose(plan_bytes(ONE, &plan))];
         for (held_calls, old_places) in [(2, n), (1, n), (2, n + 5), (2, 600)] {
             let mut desk = Bytes::fresh(run, ONE, old_places);
             let mut book = Ok(Book::new(ONE, old_places));
@@ -345,7 +345,7 @@ fn t_in_bytes(run: &mut Run, seen: &mut Seen, steps: &mut Steps) {
     for places in [1, 2, 600] {
         let new = new_bytes(run, places);
         let Some((after, _)) = step(run, &desk, &Ok(book.clone()), &new, steps) else { panic!("T goes over") };
-        let mut store = vec![0; 4_632];
+        let mut store = vec![0; 4_704];
         for (at, byte) in [(0, 1), (8, 1), (16, 1), (24, 3), (536, 10)] {
             store[at] = byte;
         }
@@ -362,7 +362,7 @@ fn t_in_bytes(run: &mut Run, seen: &mut Seen, steps: &mut Steps) {
         let new = new_bytes(run, places);
         let book = held(&old.store, &old.table);
         let Some((after, _)) = step(run, &old, &book, &new, steps) else { panic!("a bare desk goes over") };
-        let store = [&[count][..], &[0; 4_631]].concat();
+        let store = [&[count][..], &[0; 4_703]].concat();
         if after.store != store || after.table[6 * places..] != new.table[6 * places..] {
             run.fail("a bare desk has gone over into other bytes", &[("store", &after.store)]);
         }
@@ -400,10 +400,11 @@ fn row_0_first(run: &mut Run, seen: &mut Seen, steps: &mut Steps) {
     let pair = |first: u8, second: u8, litres| Site { first, second, litres };
     for sites in [vec![pair(0, 1, 10)], vec![pair(0, 1, 9), pair(1, 2, 1)], known::own_sites(65_535)] {
         let n = sites.len();
-        let plan = run.plan(&sites);
+        let list: List = sites.into();
+        let plan = run.plan(&list);
         let mut desk = Bytes::fresh(run, ONE, n);
         let mut book = Ok(Book::new(ONE, n));
-        for next in [Call::Load(list_bytes(ONE, &sites)), Call::Propose(plan_bytes(ONE, &plan))] {
+        for next in [Call::Load(list_bytes(ONE, &list)), Call::Propose(plan_bytes(ONE, &plan))] {
             expect(run, &mut desk, &mut book, &next, Ok(Told::Done), seen);
         }
         let damages: [&dyn Fn(&mut Bytes); 13] = [

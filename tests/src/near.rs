@@ -1,12 +1,13 @@
 //! Near misses: plans that have the right form and are close to a true one. Some are true.
 
-use crate::decompose::{innermost_core, shares};
-use crate::records::{listed, members, Edition, Plan, Site};
+use crate::decompose::{by_cuts, innermost_core, shares};
+use crate::families::roll;
+use crate::records::{listed, members, Edition, List, Plan, Site};
 use crate::rng::Rng;
 
 /// The groups with shares as level as a flow can make them.
-fn levelled(sites: &[Site], groups: Vec<u64>) -> Plan {
-    let shares = shares(sites, &groups).0;
+fn levelled(list: &List, groups: Vec<u64>) -> Plan {
+    let shares = shares(list, &groups).0;
     Plan { groups, shares }
 }
 
@@ -95,10 +96,10 @@ fn core_first(sites: &[Site], groups: &[u64]) -> Vec<u64> {
 }
 
 /// Whole shares at the scale of the first depot's group, where the carrying group's is right.
-fn misscaled(plan: &Plan, sites: &[Site]) -> Plan {
+fn misscaled(plan: &Plan, list: &List) -> Plan {
     let mut plan = plan.clone();
-    for (s, share) in sites.iter().zip(&mut plan.shares) {
-        let q = |d: u8| plan.groups.iter().find(|&g| g >> d & 1 == 1).map_or(1, |g| u64::from(g.count_ones()));
+    for (s, share) in list.iter().zip(&mut plan.shares) {
+        let q = |d: u8| plan.groups.iter().find(|&g| g >> d & 1 == 1).map_or(1, |&g| list.size(g));
         if *share == u64::from(s.litres) * q(s.second) {
             *share = u64::from(s.litres) * q(s.first);
         }
@@ -106,22 +107,64 @@ fn misscaled(plan: &Plan, sites: &[Site]) -> Plan {
     plan
 }
 
+/// A plan that leaves crews out somewhere: a true one of the sites without the roll; its groups, with level shares; or
+/// the right groups, level at another scale or with each depot at W.
+fn miscrewed(rng: &mut Rng, list: &List, plan: &Plan) -> Plan {
+    let plain = List::from(list.sites.clone());
+    match rng.below(4) {
+        0 => levelled(&plain, by_cuts(&plain)),
+        1 => levelled(list, by_cuts(&plain)),
+        2 => levelled(&plain, plan.groups.clone()),
+        _ => {
+            // level without the roll, brought to the scale with it
+            let mut even = levelled(&plain, plan.groups.clone());
+            for (s, share) in list.iter().zip(&mut even.shares) {
+                let carrier = plan.groups.iter().rfind(|&g| g & (1 << s.first | 1 << s.second) != 0);
+                let set = *carrier.expect("a grouped depot");
+                *share = *share * list.size(set) / u64::from(set.count_ones());
+            }
+            even
+        }
+    }
+}
+
 /// A plan close to a true one of a list, of an edition, with at least one site.
-pub fn miss(rng: &mut Rng, e: Edition, sites: &[Site], plan: &Plan) -> Plan {
-    match rng.below(10) {
+pub fn miss(rng: &mut Rng, e: Edition, list: &List, plan: &Plan) -> Plan {
+    match rng.below(if list.roll.is_some() { 13 } else { 10 }) {
         0..=2 => moved(rng, e, plan),
-        3 => exchanged(rng, sites, plan),
+        3 => exchanged(rng, list, plan),
         4 => Plan { groups: regrouped(rng, &plan.groups), shares: plan.shares.clone() },
-        5..=7 => levelled(sites, regrouped(rng, &plan.groups)),
-        8 => levelled(sites, core_first(sites, &plan.groups)),
-        _ => misscaled(plan, sites),
+        5..=7 => levelled(list, regrouped(rng, &plan.groups)),
+        8 => levelled(list, core_first(list, &plan.groups)),
+        9 => misscaled(plan, list),
+        _ => miscrewed(rng, list, plan),
+    }
+}
+
+/// Another roll, or none, or a first one: crews at one depot changed, two depots' exchanged, ones, any.
+fn recrewed(rng: &mut Rng, list: &mut List) {
+    let named = members(listed(list));
+    match (&mut list.roll, rng.below(5)) {
+        (Some(crews), 0 | 1) => {
+            let d = if rng.percent(80) { *rng.pick(&named) } else { rng.below(64) };
+            crews[d] = if crews[d] == 9 || rng.percent(50) { crews[d].max(2) - 1 } else { crews[d] + 1 };
+        }
+        (Some(crews), 2) => crews.swap(*rng.pick(&named), *rng.pick(&named)),
+        (Some(_), 3) => list.roll = None,
+        (None, 0 | 1) => *list = list.with_ones(),
+        _ => list.roll = Some(roll(rng, list)),
     }
 }
 
 /// Next season's list, of an edition: one site's litres changed, also in one bit, two sites exchanged, a site's ends
-/// exchanged or replaced. The old plan has the right form for it.
-pub fn next_season(rng: &mut Rng, e: Edition, sites: &[Site]) -> Vec<Site> {
-    let mut sites = sites.to_vec();
+/// exchanged or replaced; another roll. The old plan has the right form for it.
+pub fn next_season(rng: &mut Rng, e: Edition, list: &List) -> List {
+    let mut next = list.clone();
+    if e.has_rolls() && rng.percent(25) {
+        recrewed(rng, &mut next);
+        return next;
+    }
+    let sites = &mut next.sites;
     let n = sites.len();
     let i = rng.below(n);
     match rng.below(7) {
@@ -129,9 +172,9 @@ pub fn next_season(rng: &mut Rng, e: Edition, sites: &[Site]) -> Vec<Site> {
         1 => sites[i].litres = (sites[i].litres - 1).max(1),
         2 => sites.swap(i, rng.below(n)),
         3 => sites[i] = Site { first: sites[i].second, second: sites[i].first, ..sites[i] },
-        4 => sites[i].second = *rng.pick(&members(listed(&sites))) as u8,
+        4 => sites[i].second = *rng.pick(&members(listed(sites))) as u8,
         5 => sites[i].litres = (sites[i].litres ^ 1 << rng.below(8 * (e.site_bytes - 4))).max(1),
         _ => sites[i].litres = rng.from_to(1, e.most() as usize) as u32,
     }
-    sites
+    next
 }

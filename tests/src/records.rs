@@ -1,5 +1,7 @@
 //! Lists and plans as values, and their bytes in either edition.
 
+use std::ops::{Deref, DerefMut};
+
 /// An edition by its records: their marks, and how long they are.
 #[derive(Clone, Copy, Debug, PartialEq, Eq)]
 pub struct Edition {
@@ -53,16 +55,33 @@ impl Edition {
         u64::MAX >> (8 * (10 - self.share_bytes))
     }
 
+    /// The length of a list without a roll.
     pub fn list_length(self, sites: usize) -> usize {
         4 + self.site_bytes * sites
+    }
+
+    /// The length of the longest list: in edition 2 one with a roll.
+    pub fn longest_list(self) -> usize {
+        self.list_length(512) + if self.has_rolls() { ROLL_BYTES } else { 0 }
+    }
+
+    /// Whether a list of the edition may end in a roll (document 02's request g).
+    pub fn has_rolls(self) -> bool {
+        self == TWO
     }
 
     pub fn plan_length(self, groups: usize, sites: usize) -> usize {
         5 + 10 * groups + self.share_bytes * sites
     }
 
-    /// The bytes of a store: three figures and 64 sets of 8 bytes each, 512 shares.
+    /// The bytes of a store: three figures and 64 sets of 8 bytes each, 512 shares; in edition 2 also whether there is a
+    /// roll, in 8 bytes, and 64 bytes of crews.
     pub fn store_bytes(self) -> usize {
+        self.store_roll() + if self.has_rolls() { 8 + 64 } else { 0 }
+    }
+
+    /// Where a store of edition 2 says whether there is a roll. The crews stand 8 bytes behind.
+    pub fn store_roll(self) -> usize {
         self.store_share(512)
     }
 
@@ -99,6 +118,64 @@ pub fn site(first: u8, second: u8, litres: u32) -> Site {
     Site { first, second, litres }
 }
 
+/// The crews of each depot.
+pub type Roll = [u8; 64];
+
+pub const ROLL_MARK: [u8; 2] = [0x44, 0x52];
+
+/// The bytes of a roll's record: mark, 64 depots.
+pub const ROLL_BYTES: usize = 66;
+
+/// The sites of a list, and its roll where it has one.
+#[derive(Clone, Debug, Default, PartialEq, Eq)]
+pub struct List {
+    pub sites: Vec<Site>,
+    pub roll: Option<Roll>,
+}
+
+impl List {
+    /// "Without a roll a listed depot has one crew."
+    pub fn crews(&self, depot: usize) -> u64 {
+        self.roll.map_or(1, |roll| u64::from(roll[depot]))
+    }
+
+    /// "The size of a set becomes its crews added up."
+    pub fn size(&self, set: u64) -> u64 {
+        members(set).into_iter().map(|d| self.crews(d)).sum()
+    }
+
+    /// The length of its bytes.
+    pub fn length(&self, e: Edition) -> usize {
+        e.list_length(self.len()) + if self.roll.is_some() { ROLL_BYTES } else { 0 }
+    }
+
+    /// The same sites with a roll of one crew for each depot that a site names and none for every other.
+    pub fn with_ones(&self) -> List {
+        let named = listed(self);
+        List { roll: Some(std::array::from_fn(|d| (named >> d & 1) as u8)), ..self.clone() }
+    }
+}
+
+/// Sites without a roll.
+impl From<Vec<Site>> for List {
+    fn from(sites: Vec<Site>) -> List {
+        List { sites, roll: None }
+    }
+}
+
+impl Deref for List {
+    type Target = [Site];
+    fn deref(&self) -> &[Site] {
+        &self.sites
+    }
+}
+
+impl DerefMut for List {
+    fn deref_mut(&mut self) -> &mut [Site] {
+        &mut self.sites
+    }
+}
+
 /// A plan's groups, bit n for depot n, and its shares.
 #[derive(Clone, Debug, PartialEq, Eq)]
 pub struct Plan {
@@ -106,15 +183,22 @@ pub struct Plan {
     pub shares: Vec<u64>,
 }
 
-pub fn list_bytes(e: Edition, sites: &[Site]) -> Vec<u8> {
+pub fn list_bytes(e: Edition, list: &List) -> Vec<u8> {
     let mut bytes = e.list.to_vec();
-    bytes.extend((sites.len() as u16).to_le_bytes());
-    for s in sites {
+    bytes.extend((list.len() as u16).to_le_bytes());
+    for s in list.iter() {
         bytes.extend(e.site);
         bytes.extend([s.first, s.second]);
         bytes.extend(e.litres(s.litres));
     }
+    if let Some(roll) = list.roll {
+        bytes.extend(roll_bytes(&roll));
+    }
     bytes
+}
+
+pub fn roll_bytes(roll: &Roll) -> Vec<u8> {
+    [&ROLL_MARK[..], roll].concat()
 }
 
 pub fn plan_bytes(e: Edition, plan: &Plan) -> Vec<u8> {

@@ -1,7 +1,9 @@
 //! Document 01's rows, read and tried literally: each row over all records before the next; in either edition of
-//! document 02.
+//! document 02, and with its rolls.
 
-use crate::records::{list_bytes, number, plan_bytes, Edition, Plan, Site, ONE, TWO};
+use crate::records::{
+    list_bytes, number, plan_bytes, Edition, List, Plan, Roll, Site, ONE, ROLL_BYTES, ROLL_MARK, TWO,
+};
 
 /// A set of depots: whether each is in it.
 pub type Depots = [bool; 64];
@@ -15,13 +17,13 @@ pub fn edition_of(list: &[u8]) -> Edition {
     }
 }
 
-/// The row that refuses a list of an edition, or its sites.
-pub fn read_list(e: Edition, list: &[u8]) -> Result<Vec<Site>, u8> {
+/// The row that refuses a list of an edition, or what it has.
+pub fn read_list(e: Edition, list: &[u8]) -> Result<List, u8> {
     read_list_into(e, list, 512)
 }
 
 /// The same of a list for which there are so many places.
-pub fn read_list_into(e: Edition, list: &[u8], places: usize) -> Result<Vec<Site>, u8> {
+pub fn read_list_into(e: Edition, list: &[u8], places: usize) -> Result<List, u8> {
     if list.len() < 4 || list[..2] != e.list {
         return Err(1);
     }
@@ -29,11 +31,14 @@ pub fn read_list_into(e: Edition, list: &[u8], places: usize) -> Result<Vec<Site
     if count > 512 || count > places {
         return Err(2);
     }
-    if list.len() != e.list_length(count) {
+    // "with or without 66 more bytes", in edition 2
+    let length = e.list_length(count);
+    if list.len() != length && !(e.has_rolls() && list.len() == length + ROLL_BYTES) {
         return Err(3);
     }
-    let records: Vec<&[u8]> = list[4..].chunks(e.site_bytes).collect();
-    if records.iter().any(|r| r[..2] != e.site) {
+    let records: Vec<&[u8]> = list[4..length].chunks(e.site_bytes).collect();
+    let rolls: Vec<&[u8]> = list[length..].chunks(ROLL_BYTES).collect();
+    if records.iter().any(|r| r[..2] != e.site) || rolls.iter().any(|r| r[..2] != ROLL_MARK) {
         return Err(4);
     }
     if records.iter().any(|r| r[2] > 63 || r[3] > 63) {
@@ -42,7 +47,24 @@ pub fn read_list_into(e: Edition, list: &[u8], places: usize) -> Result<Vec<Site
     if records.iter().any(|r| r[4..].iter().all(|&b| b == 0)) {
         return Err(6);
     }
-    Ok(records.iter().map(|r| Site { first: r[2], second: r[3], litres: number(&r[4..]) as u32 }).collect())
+    let sites: Vec<Site> =
+        records.iter().map(|r| Site { first: r[2], second: r[3], litres: number(&r[4..]) as u32 }).collect();
+    let roll = rolls.first().map(|r| std::array::from_fn(|d| r[2 + d]));
+    match roll {
+        Some(roll) if above(&roll) => Err(22),
+        Some(roll) if sites.iter().any(|site| without_crews(&roll, site)) => Err(23),
+        roll => Ok(List { sites, roll }),
+    }
+}
+
+/// Row 22: "a roll byte is above 9".
+pub fn above(roll: &Roll) -> bool {
+    roll.iter().any(|&crews| crews > 9)
+}
+
+/// Row 23: the "site names a depot whose roll byte is 0".
+pub fn without_crews(roll: &Roll, site: &Site) -> bool {
+    roll[usize::from(site.first)] == 0 || roll[usize::from(site.second)] == 0
 }
 
 /// The row that refuses a plan's form for a list of `sites` sites, of an edition, or its groups and shares.
@@ -76,8 +98,9 @@ pub fn read_plan(e: Edition, plan: &[u8], sites: usize) -> Result<(Vec<Depots>, 
     Ok((sets.collect(), shares.collect()))
 }
 
-fn size(set: &Depots) -> u64 {
-    set.iter().filter(|&&member| member).count() as u64
+/// q of a group: its crews added up.
+fn size(list: &List, group: &Depots) -> u64 {
+    (0..64).filter(|&d| group[d]).map(|d| list.crews(d)).sum()
 }
 
 /// The place of a depot's group.
@@ -90,10 +113,10 @@ fn carrier(groups: &[Depots], site: &Site) -> usize {
     place(groups, site.first).max(place(groups, site.second))
 }
 
-/// Row 14 of one site.
-fn share_refused(groups: &[Depots], site: &Site, s: u64) -> bool {
+/// Row 14 of one site of a list.
+fn share_refused(list: &List, groups: &[Depots], site: &Site, s: u64) -> bool {
     let k = carrier(groups, site);
-    let whole = u64::from(site.litres) * size(&groups[k]);
+    let whole = u64::from(site.litres) * size(list, &groups[k]);
     s > whole
         || site.first == site.second && s != whole
         || place(groups, site.first) < k && s != 0
@@ -109,17 +132,17 @@ fn litres(sites: &[Site], groups: &[Depots]) -> Vec<u64> {
     litres
 }
 
-/// For each depot of each group, whether its shares from the sites that the group carries add up to W.
-fn level(sites: &[Site], groups: &[Depots], shares: &[u64]) -> bool {
-    let litres = litres(sites, groups);
+/// For each depot of each group, whether its shares from the sites that the group carries add up to its crews times W.
+fn level(list: &List, groups: &[Depots], shares: &[u64]) -> bool {
+    let litres = litres(list, groups);
     let mut loads = vec![[0u64; 64]; groups.len()];
-    for (site, s) in sites.iter().zip(shares) {
+    for (site, s) in list.iter().zip(shares) {
         let k = carrier(groups, site);
-        let whole = u64::from(site.litres) * size(&groups[k]);
+        let whole = u64::from(site.litres) * size(list, &groups[k]);
         loads[k][usize::from(site.first)] += s;
         loads[k][usize::from(site.second)] += whole - s;
     }
-    groups.iter().enumerate().all(|(k, g)| (0..64).all(|d| !g[d] || loads[k][d] == litres[k]))
+    groups.iter().enumerate().all(|(k, g)| (0..64).all(|d| !g[d] || loads[k][d] == list.crews(d) * litres[k]))
 }
 
 /// The depots that some site names.
@@ -133,25 +156,25 @@ fn named(sites: &[Site]) -> Depots {
 }
 
 /// The first of rows 12 to 16 that refuses a plan, or 0.
-pub fn plan_row(sites: &[Site], groups: &[Depots], shares: &[u64]) -> u8 {
+pub fn plan_row(list: &List, groups: &[Depots], shares: &[u64]) -> u8 {
     for (k, g) in groups.iter().enumerate() {
-        if size(g) == 0 || groups[..k].iter().any(|h| (0..64).any(|d| g[d] && h[d])) {
+        if g.iter().all(|&member| !member) || groups[..k].iter().any(|h| (0..64).any(|d| g[d] && h[d])) {
             return 12;
         }
     }
-    let named = named(sites);
+    let named = named(list);
     if (0..64).any(|d| named[d] != groups.iter().any(|g| g[d])) {
         return 13;
     }
-    if sites.iter().zip(shares).any(|(site, &s)| share_refused(groups, site, s)) {
+    if list.iter().zip(shares).any(|(site, &s)| share_refused(list, groups, site, s)) {
         return 14;
     }
-    if !level(sites, groups, shares) {
+    if !level(list, groups, shares) {
         return 15;
     }
-    let litres = litres(sites, groups);
+    let litres = litres(list, groups);
     for k in 1..groups.len() {
-        if litres[k - 1] * size(&groups[k]) <= litres[k] * size(&groups[k - 1]) {
+        if litres[k - 1] * size(list, &groups[k]) <= litres[k] * size(list, &groups[k - 1]) {
             return 16;
         }
     }
@@ -161,25 +184,27 @@ pub fn plan_row(sites: &[Site], groups: &[Depots], shares: &[u64]) -> u8 {
 /// Check's answer: 0 where it passes, otherwise the row. The plan is read in the list's edition.
 pub fn check(list: &[u8], plan: &[u8]) -> u8 {
     let e = edition_of(list);
-    let sites = match read_list(e, list) {
-        Ok(sites) => sites,
+    let list = match read_list(e, list) {
+        Ok(list) => list,
         Err(row) => return row,
     };
-    match read_plan(e, plan, sites.len()) {
-        Ok((groups, shares)) => plan_row(&sites, &groups, &shares),
+    match read_plan(e, plan, list.len()) {
+        Ok((groups, shares)) => plan_row(&list, &groups, &shares),
         Err(row) => row,
     }
 }
 
-/// Document 02's request d: "each way takes one edition only", up edition 1 and back edition 2. The sites of a list of
-/// that edition, or the row.
-fn read_to_convert(from: Edition, list: &[u8]) -> Result<Vec<Site>, u8> {
-    let sites = read_list(from, list)?;
-    // "21, going back, if a site's litres are outside 1 to 65,535; after all rows of the list, before the plan is read"
-    if from == TWO && sites.iter().any(|site| site.litres < 1 || site.litres > 65_535) {
+/// Document 02's request d: "each way takes one edition only", up edition 1 and back edition 2. A list of that edition,
+/// or the row.
+fn read_to_convert(from: Edition, list: &[u8]) -> Result<List, u8> {
+    let list = read_list(from, list)?;
+    // "21, going back, if a site's litres are outside 1 to 65,535; after all rows of the list, before the plan is read";
+    // "row 21 also refuses a list with" a roll
+    let outside = list.iter().any(|site| site.litres < 1 || site.litres > 65_535);
+    if from == TWO && (outside || list.roll.is_some()) {
         return Err(21);
     }
-    Ok(sites)
+    Ok(list)
 }
 
 /// A list of an edition in the other, "with the same figures in the same order", for so many bytes; or the row.
@@ -196,13 +221,13 @@ pub fn convert_list(from: Edition, list: &[u8], room: usize) -> Result<Vec<u8>, 
 /// its rows, then the plan by rows 7 to 16; row 20 comes last and covers a buffer too short for what is converted, the
 /// list's first."
 pub fn convert_plan(from: Edition, list: &[u8], plan: &[u8], room: [usize; 2]) -> Result<[Vec<u8>; 2], u8> {
-    let sites = read_to_convert(from, list)?;
-    let (groups, shares) = read_plan(from, plan, sites.len())?;
-    match plan_row(&sites, &groups, &shares) {
+    let list = read_to_convert(from, list)?;
+    let (groups, shares) = read_plan(from, plan, list.len())?;
+    match plan_row(&list, &groups, &shares) {
         0 => {}
         row => return Err(row),
     }
-    let list = list_bytes(from.other(), &sites);
+    let list = list_bytes(from.other(), &list);
     let plan = plan_bytes(from.other(), &Plan { groups: sets(&groups), shares });
     if room[0] < list.len() {
         return Err(20);
@@ -220,8 +245,8 @@ fn sets(groups: &[Depots]) -> Vec<u64> {
 
 /// Whether a plan of the right form is true of the list with the given decomposition: its groups are
 /// those of the definition, its shares keep the rules and are level. Neither row 12, 13 nor 16 is used.
-pub fn is_true(sites: &[Site], decomposition: &[u64], groups: &[Depots], shares: &[u64]) -> bool {
+pub fn is_true(list: &List, decomposition: &[u64], groups: &[Depots], shares: &[u64]) -> bool {
     sets(groups) == decomposition
-        && sites.iter().zip(shares).all(|(site, &s)| !share_refused(groups, site, s))
-        && level(sites, groups, shares)
+        && list.iter().zip(shares).all(|(site, &s)| !share_refused(list, groups, site, s))
+        && level(list, groups, shares)
 }

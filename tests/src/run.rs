@@ -1,8 +1,9 @@
 //! One case: a call of the engine, compared with the reference.
 
+use crate::damage::list_rows;
 use crate::decompose::{by_all_sets, by_cuts, shares};
 use crate::lent::{self, Lent};
-use crate::records::{hex, list_bytes, listed, Edition, Plan, Site, ONE, TWO};
+use crate::records::{hex, list_bytes, listed, Edition, List, Plan, ONE, TWO};
 use crate::reference::{self, edition_of};
 use crate::rng::Rng;
 
@@ -12,22 +13,27 @@ pub const FEW: u32 = 10;
 /// After this many failures the run stops.
 const MOST: usize = 20;
 
+/// How many rows there are.
+pub const ROWS: usize = 24;
+
 pub struct Run {
     pub rng: Rng,
     seed: u64,
     pub cases: usize,
     pub failed: usize,
     /// How often each row was the answer, in each edition; place 0 is a plan that passes.
-    pub checks: [[usize; 21]; 2],
-    pub makes: [[usize; 21]; 2],
+    pub checks: [[usize; ROWS]; 2],
+    pub makes: [[usize; ROWS]; 2],
     /// The same of lists converted from each edition, alone and with a plan.
-    pub converted: [[[usize; 22]; 2]; 2],
+    pub converted: [[[usize; ROWS]; 2]; 2],
     /// How often the count over all sets agreed with the minimum cuts.
     pub counted: usize,
     /// How often the rows agreed with the definition: passes just where the plan is true.
     pub judged: usize,
+    /// How often a list without a roll and the same with a roll of ones were answered alike.
+    pub alike: usize,
     /// The list worked on, and its groups.
-    held: (Vec<Site>, Vec<u64>),
+    held: (List, Vec<u64>),
 }
 
 impl Run {
@@ -37,37 +43,38 @@ impl Run {
             seed,
             cases: 0,
             failed: 0,
-            checks: [[0; 21]; 2],
-            makes: [[0; 21]; 2],
-            converted: [[[0; 22]; 2]; 2],
+            checks: [[0; ROWS]; 2],
+            makes: [[0; ROWS]; 2],
+            converted: [[[0; ROWS]; 2]; 2],
             counted: 0,
             judged: 0,
-            held: (Vec::new(), Vec::new()),
+            alike: 0,
+            held: (List::default(), Vec::new()),
         }
     }
 
     /// The groups of a list by minimum cuts; on few depots the count over all sets must agree.
-    pub fn groups(&mut self, sites: &[Site]) -> Vec<u64> {
-        if self.held.0 != sites {
-            let groups = by_cuts(sites);
-            if listed(sites).count_ones() <= FEW {
+    pub fn groups(&mut self, list: &List) -> Vec<u64> {
+        if self.held.0 != *list {
+            let groups = by_cuts(list);
+            if listed(list).count_ones() <= FEW {
                 self.counted += 1;
-                if by_all_sets(sites) != groups {
-                    let list = list_bytes(TWO, sites);
+                if by_all_sets(list) != groups {
+                    let list = list_bytes(TWO, list);
                     self.fail("the minimum cuts and the count over all sets differ", &[("list", &list)]);
                 }
             }
-            self.held = (sites.to_vec(), groups);
+            self.held = (list.clone(), groups);
         }
         self.held.1.clone()
     }
 
     /// A true plan by minimum cuts and flows.
-    pub fn plan(&mut self, sites: &[Site]) -> Plan {
-        let groups = self.groups(sites);
-        let (shares, level) = shares(sites, &groups);
+    pub fn plan(&mut self, list: &List) -> Plan {
+        let groups = self.groups(list);
+        let (shares, level) = shares(list, &groups);
         if !level {
-            self.fail("no level shares for the groups", &[("list", &list_bytes(TWO, sites))]);
+            self.fail("no level shares for the groups", &[("list", &list_bytes(TWO, list))]);
         }
         Plan { groups, shares }
     }
@@ -95,7 +102,7 @@ impl Run {
         let row = reference::check(list, plan);
         self.checks[edition_of(list).number - 1][usize::from(row)] += 1;
         let both: [(&str, &[u8]); 2] = [("list", list), ("plan", plan)];
-        if row == 0 || row >= 12 {
+        if row == 0 || (12..=16).contains(&row) {
             self.judge(list, plan, row);
         }
         let lent_list = Lent::new(&mut self.rng, list, behind_list);
@@ -117,13 +124,28 @@ impl Run {
     /// The rows against the definition: a plan of the right form passes just where it is true.
     fn judge(&mut self, list: &[u8], plan: &[u8], row: u8) {
         let e = edition_of(list);
-        let sites = reference::read_list(e, list).expect("a list that reads");
-        let (groups, shares) = reference::read_plan(e, plan, sites.len()).expect("a plan of the right form");
-        let held = self.held.0 == sites;
-        let decomposition = if held { self.held.1.clone() } else { by_cuts(&sites) };
+        let read = reference::read_list(e, list).expect("a list that reads");
+        let (groups, shares) = reference::read_plan(e, plan, read.len()).expect("a plan of the right form");
+        let held = self.held.0 == read;
+        let decomposition = if held { self.held.1.clone() } else { by_cuts(&read) };
         self.judged += 1;
-        if reference::is_true(&sites, &decomposition, &groups, &shares) != (row == 0) {
+        if reference::is_true(&read, &decomposition, &groups, &shares) != (row == 0) {
             self.fail("the rows and the definition differ", &[("list", list), ("plan", plan)]);
+        }
+        if e.has_rolls() && read.roll.is_none() {
+            self.judge_ones(&read, plan, row);
+        }
+    }
+
+    /// "A roll with 1 for each depot that a site names and 0 for every other lets exactly those plans pass that pass
+    /// without a roll": what is refused is refused by the same row too.
+    fn judge_ones(&mut self, list: &List, plan: &[u8], row: u8) {
+        self.alike += 1;
+        let rolled = list_bytes(TWO, &list.with_ones());
+        let answer = sulgheti::check(&rolled, plan).map_or_else(|row| row.0, |()| 0);
+        if answer != row || reference::check(&rolled, plan) != row {
+            let what = format!("with a roll of ones check answers {answer}, without {row}");
+            self.fail(&what, &[("list", &rolled), ("plan", plan)]);
         }
     }
 
@@ -137,13 +159,13 @@ impl Run {
         let e = edition_of(list);
         let expected = match reference::read_list(e, list) {
             Err(row) => Err(row),
-            Ok(sites) => {
-                let groups = self.groups(&sites);
-                let length = e.plan_length(groups.len(), sites.len());
+            Ok(read) => {
+                let groups = self.groups(&read);
+                let length = e.plan_length(groups.len(), read.len());
                 if room < length {
                     Err(20)
                 } else {
-                    Ok((sites, groups, length))
+                    Ok((read, groups, length))
                 }
             }
         };
@@ -162,13 +184,13 @@ impl Run {
         if !out.unchanged_from(answer.max(0) as usize) {
             self.fail(&format!("make into {room} bytes wrote outside the plan"), &[("list", list)]);
         }
-        let (sites, groups, length) = expected.ok()?;
+        let (read, groups, length) = expected.ok()?;
         let plan = out.bytes()[..length].to_vec();
         let both: [(&str, &[u8]); 2] = [("list", list), ("plan", &plan)];
-        match reference::read_plan(e, &plan, sites.len()) {
+        match reference::read_plan(e, &plan, read.len()) {
             Err(row) => self.fail(&format!("make's plan is refused by row {row}"), &both),
             Ok((sets, shares)) => {
-                if !reference::is_true(&sites, &groups, &sets, &shares) {
+                if !reference::is_true(&read, &groups, &sets, &shares) {
                     self.fail("make's plan is not true", &both);
                 }
             }
@@ -297,7 +319,7 @@ impl Run {
         let right = match told {
             _ if edition_of(list) != from => told == Err(1),
             Ok(_) | Err(20) => before == 0,
-            Err(21) => from == TWO && !(1..=6).contains(&before),
+            Err(21) => from == TWO && !list_rows(TWO).contains(&before),
             Err(row) => before == row,
         };
         if !right {

@@ -27,13 +27,13 @@ pub record Holds (N : Network) (ends litres crews : List ℕ) (listed : ℕ) : T
   pub crew : (d : ℕ) → d < 64 → at crews d ≡ N .crews d
   pub list : (d : ℕ) → has listed d ≡ N .listed d
 
--- The arrays have their sizes and hold a network, 64 stands for no depot, each depot has one crew, and the litres fit.
+-- The arrays have their sizes and hold a network, 64 stands for no depot, each depot has at most 9 crews, and the litres fit.
 pub record Tables (ends litres crews : List ℕ) (listed : ℕ) : Type 0 where
   pub paired : Paired ends
   pub most : (j : ℕ) → j < 1024 → at ends j ≤ 64
   pub sites : Listed ends litres
   pub crew : length crews ≡ 64
-  pub ones : (d : ℕ) → d < 64 → at crews d ≡ 1
+  pub most-crews : (d : ℕ) → d < 64 → at crews d ≤ 9
   pub litre-fits : sum (at litres) 512 < 2 ^ 64
   pub fits : sum (at crews) 64 * sum (at litres) 512 < 2 ^ 64
   pub network : Network

@@ -59,11 +59,11 @@ module _ {b x : Bool} (tested : b ≡ x) where
   no-store h = sym tested ∙ not-true b h
 
 -- the edition of a store, by its length
-pub second-in : (s : List ℕ) → length s ≡ 4632 → edition2 ≡ editionIn s
-second-in s h = sym (ap (λ (b : Bool). cond b edition2 edition1) (eq-eqb (length s) 4632 h))
+pub second-in : (s : List ℕ) → length s ≡ 4704 → edition2 ≡ editionIn s
+second-in s h = sym (ap (λ (b : Bool). cond b edition2 edition1) (eq-eqb (length s) 4704 h))
 
-pub first-in : (s : List ℕ) → (length s ≡ 4632 → ⊥) → edition1 ≡ editionIn s
-first-in s h = sym (ap (λ (b : Bool). cond b edition2 edition1) (ne-eqb (length s) 4632 h))
+pub first-in : (s : List ℕ) → (length s ≡ 4704 → ⊥) → edition1 ≡ editionIn s
+first-in s h = sym (ap (λ (b : Bool). cond b edition2 edition1) (ne-eqb (length s) 4704 h))
 
 -- the widths of either edition, which every call asks
 pub fitting1 : {e : Edition} → e ≡ edition1 → Fitting e

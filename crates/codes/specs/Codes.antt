@@ -2,12 +2,14 @@
 use Prim.Native.Nat.{ℕ}
 use mathlib.Core.Bool.{true, cond, _&&_}
 use mathlib.Core.List.{List}
+use mathlib.Core.Option.{none}
 use mathlib.Core.Path.{_≡_}
 use lib.Dec.{eqb}
 use lib.IntN.{ℤ, pos, negℤ}
 use lib.ListN.{length}
 use Rattle.records.specs.declared.Edition.{Edition}
 use Rattle.records.specs.Bytes.{Bytes}
+use Rattle.records.specs.Values.{rollArray}
 use Rattle.records.specs.Format.{edition1, edition2}
 use Rattle.store.specs.Calls.{Call, Told, refused, done, shared, loaded, differ, wrote, reached}
 use Rattle.store.specs.State.{bare, step}
@@ -16,7 +18,7 @@ use Rattle.lent.specs.Lent.{stateIn, isOf, laid, call}
 use Rattle.store_migrate_bytes.specs.Migrate.{migrates}
 use Rattle.codes.specs.declared.Coded.{Coded}
 
--- The edition of a store, told by the length of its bytes: 4,632 are a store of edition 2. Bytes of another length are taken for a store of edition 1, and are none
+-- The edition of a store, told by the length of its bytes: 4,704 are a store of edition 2. Bytes of another length are taken for a store of edition 1, and are none
 -- unless they are 2,584 (`isOf`).
 abbrev pub editionIn : List ℕ → Edition
 editionIn s = cond (isOf edition2 s) edition2 edition1
@@ -126,8 +128,8 @@ pub record WroteOut (e : Edition) (s t : List ℕ) (c : Call) (r : ℤ) (out : L
 -- a fresh store where the bytes have the length of one, otherwise nothing is written
 pub record FreshCode (e : Edition) (s : List ℕ) (r : ℤ) (s' : List ℕ) : Type 0 where
   pub code : r ≡ cond (isOf e s) (pos 0) noStoreCode
-  pub store : s' ≡ cond (isOf e s) (storeBytes (e .share) (bare 0)) s
-  pub reads : isOf e s ≡ true → storeIn (e .share) s' ≡ bare 0
+  pub store : s' ≡ cond (isOf e s) (storeBytes (e .share) (e .roll) (bare 0 (rollArray none))) s
+  pub reads : isOf e s ≡ true → storeIn (e .share) (e .roll) s' ≡ bare 0 (rollArray none)
 
 -- Document 02, e: the old store and its table are only read. What the step does to the bytes of the new store and table: where it is done, these stand for the state after it; where the old
 -- store has not the length of one of edition 1 or the new one that of one of edition 2, nothing is done.

@@ -108,7 +108,7 @@ fn written(a: Answer) -> i64
 pub fn edition_in(store: &[u8]) -> Edition
     ensures { λ r. ⌜ (r ≡ editionIn (now (store .entry))) × Fitting r ⌝ }
 {
-    if store.len() == 4632 {
+    if store.len() == 4704 {
         return edition2();
     }
     edition1()
@@ -119,7 +119,11 @@ fn is_store(e: Edition, store: &[u8]) -> bool
     requires { ⌜ Fitting e ⌝ }
     ensures { λ r. ⌜ r ≡ isOf e (now (store .entry)) ⌝ }
 {
-    store.len() == 536 + e.share * 512
+    let front = 536 + e.share * 512;
+    if e.roll {
+        return store.len() == front + 72;
+    }
+    store.len() == front
 }
 
 // Each function below answers -257 where the bytes are no store of the edition.

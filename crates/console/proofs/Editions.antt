@@ -17,16 +17,16 @@ pub fitting : (second : Bool) → Fitting (editionAt second)
 fitting true = (lit≤ tt, lit≤ tt)
 fitting false = (lit≤ tt, lit≤ tt)
 
-store-fits : (second : Bool) → storeSize (editionAt second .share) ≤ 4632
+store-fits : (second : Bool) → storeSize (editionAt second .share) (editionAt second .roll) ≤ 4704
 store-fits true = lit≤ tt
 store-fits false = lit≤ tt
 
 -- n is the length of a store
-module _ (second : Bool) {n : ℕ} (e : n ≡ storeSize (editionAt second .share)) where
-  pub store-within : n ≤ 4632
+module _ (second : Bool) {n : ℕ} (e : n ≡ storeSize (editionAt second .share) (editionAt second .roll)) where
+  pub store-within : n ≤ 4704
   store-within = rw e (store-fits second)
 
-  module _ (s : List ℕ) (long : length s ≡ 4632) where
+  module _ (s : List ℕ) (long : length s ≡ 4704) where
     pub front-long : n ≡ length (take n s)
     front-long = sym (length-take-le n s (omega (arith, store-within, long)))
 

@@ -61,11 +61,11 @@ ghost use Rattle.converter.specs.Convert.{way, convertList, convertPlan};
 ghost use Rattle.console.specs.Editions.{editionAt, deskAfter};
 
 // The bytes of a store and of its table, of edition 2 if `second` is true and else of edition 1, and how many places the table has: at most 600.
-// In edition 2 a store has 4,632 bytes and a place 6; in edition 1 a store has the first 2,584 bytes, and a place 4.
+// In edition 2 a store has 4,704 bytes and a place 6; in edition 1 a store has the first 2,584 bytes, and a place 4.
 struct Desk {
     second: bool,
     places: usize,
-    store: [u8; 4632],
+    store: [u8; 4704],
     table: [u8; 3600],
 }
 
@@ -180,7 +180,7 @@ fn print_buffer(bytes: &[u8]) {
 }
 
 // The check of a list and a plan, both in hexadecimal. Here and in the other calls the first 8,192 bytes of a list or of a plan are taken.
-// What is cut off changes no answer: a list has at most 4,100 bytes and a plan at most 5,765, so a longer one is refused by its head
+// What is cut off changes no answer: a list has at most 4,166 bytes and a plan at most 5,765, so a longer one is refused by its head
 // (rows 1 and 2, rows 7 to 9) or by its length (rows 3 and 10), cut or not.
 fn checked(list: &[u8], plan: &[u8]) {
     let mut a = [0u8; 8192];
@@ -293,9 +293,9 @@ fn most_litres(second: bool) -> u32
 
 // The bytes of a store of the edition.
 fn store_bytes(second: bool) -> usize
-    ensures { λ r. ⌜ r ≡ storeSize (editionAt second .share) ⌝ }
+    ensures { λ r. ⌜ r ≡ storeSize (editionAt second .share) (editionAt second .roll) ⌝ }
 {
-    if second { 4632 } else { 2584 }
+    if second { 4704 } else { 2584 }
 }
 
 // The bytes of a table of so many places, at most 600; of more, which no desk has, none.
@@ -313,7 +313,7 @@ fn table_bytes(second: bool, places: usize) -> usize
 fn fresh(second: bool, places: usize) -> Desk
     requires { ⌜ places ≤ 600 ⌝ }
 {
-    let mut store = [0u8; 4632];
+    let mut store = [0u8; 4704];
     let size = store_bytes(second);
     lent::fresh(edition(second), &mut store[..size]);
     Desk {
@@ -392,7 +392,7 @@ fn migrated(desk: Desk, places: usize) -> Desk
     let store = desk.store;
     let table = desk.table;
     let n = table_bytes(false, desk.places);
-    let mut store2 = [0u8; 4632];
+    let mut store2 = [0u8; 4704];
     let mut table2 = [0u8; 3600];
     let answer = store_migrate_bytes::migrate(
         &store[..2584],

@@ -1,7 +1,8 @@
 -- What a way finds in a list and in a plan, by what the readers gave back. Assumes nothing.
 use mathlib.Core.Path.{_≡_, refl, sym, ap, ap₂, _∙_, subst}
-use mathlib.Core.Bool.{Bool, true, false, _&&_}
+use mathlib.Core.Bool.{Bool, true, false, cond, _&&_, _||_}
 use mathlib.Core.List.{List, [], _∷_}
+use mathlib.Core.Option.{none, some}
 use Prim.Native.Nat.{ℕ, _≤_}
 use native.Mathlib.Omega.{arith}
 use lib.Dec.{T}
@@ -9,8 +10,9 @@ use lib.ListN.{length, getD}
 use lib.Seq.{getD-take}
 use Rattle.sets.specs.Sum.{any}
 use Rattle.sets.proofs.Sum.{any-cong}
-use Rattle.density.specs.Network.{Listing, noSite, depotsInRange}
+use Rattle.density.specs.Network.{Listing, noSite, inRange}
 use Rattle.density.specs.Rows.{row, firstRow}
+use Rattle.records.specs.declared.RollArray.{RollArray}
 use Rattle.records.specs.declared.ListArray.{ListArray}
 use Rattle.records.specs.declared.PlanArray.{PlanArray}
 use Rattle.records.specs.declared.ListRead.{ListRead}
@@ -21,7 +23,7 @@ use Rattle.records.specs.declared.Wrote.the-variants as wrote
 use Rattle.records.specs.declared.WroteBoth.{WroteBoth}
 use Rattle.records.specs.declared.WroteBoth.the-variants as both
 use Rattle.records.specs.Bytes.{Bytes}
-use Rattle.records.specs.Values.{listing, Plan, planIn}
+use Rattle.records.specs.Values.{rollIn, listing, Plan, planIn}
 use Rattle.records.specs.Outcome.{Outcome, refused, passed, gate, bind}
 use Rattle.records.specs.Answer.{listRead, planArray, planRead}
 use Rattle.records.specs.Format.{readList}
@@ -33,7 +35,7 @@ use Rattle.records.proofs.Answers.{listing-array, plan-counted, plan-array, lis
 use Rattle.judge.specs.Check.{judgedFor}
 use Rattle.judge.proofs.Truth.{judged-true}
 use Rattle.converter.specs.declared.Way.{Way}
-use Rattle.converter.specs.Convert.{isOutside, outside, listFor, convertList, convertPlan}
+use Rattle.converter.specs.Convert.{isOutside, outside, hasRoll, unfit, listFor, convertList, convertPlan}
 
 -- row 21 over the places of an array
 pub outside-listing : (l : ListArray) → length (listing l .sites) ≡ l .count → outside (listing l) ≡ any (λ i. isOutside (getD (l .sites) i noSite)) (l .count)
@@ -42,24 +44,36 @@ outside-listing l each =
     ap (any (λ i. isOutside (getD (listing l .sites) i noSite))) each
     ∙ any-cong _ _ (l .count) (λ i k. ap isOutside (getD-take (l .count) (l .sites) i noSite k))
 
+-- whether there is a roll, of a value
+has-roll : (roll : RollArray) {b : Bool} → roll .there ≡ b → hasRoll (rollIn roll) ≡ b
+has-roll roll {b} e = ap (λ (x : Bool). hasRoll (cond x (some (roll .crews)) none)) e ∙ by b
+  where
+    by : (b : Bool) → hasRoll (cond b (some (roll .crews)) none) ≡ b
+    by true = refl
+    by false = refl
+
+-- row 21 by its two tests
+pub unfit-is : (l : ListArray) {a r : Bool} → a ≡ outside (listing l) → r ≡ (a || l .roll .there) → r ≡ unfit (listing l)
+unfit-is l h k = k ∙ ap₂ (λ (x y : Bool). x || y) h (sym (has-roll (l .roll) refl))
+
 -- ---- the list that a way takes
 
 abbrev tried : Bool → Outcome Listing → Outcome Listing
-tried back o = bind o (λ (l : Listing). gate (row 21 (back && outside l) ∷ []) l)
+tried back o = bind o (λ (l : Listing). gate (row 21 (back && unfit l) ∷ []) l)
 
--- what is read is taken unless row 21 applies; nothing was read where rows 1 to 6 refuse, so row 21 does not apply
-finds : (back : Bool) (o : Outcome Listing) → (back && outside (listing (listRead o .list))) ≡ false → listRead o ≡ listRead (tried back o)
+-- what is read is taken unless row 21 applies; nothing was read where the rows of a list refuse, so row 21 does not apply
+finds : (back : Bool) (o : Outcome Listing) → (back && unfit (listing (listRead o .list))) ≡ false → listRead o ≡ listRead (tried back o)
 unfolding firstRow
 finds back (refused n) h = refl
 finds back (passed l) h =
-    let t : (back && outside l) ≡ false = subst (λ (k : Listing). (back && outside k) ≡ false) (listing-array l) h in
+    let t : (back && unfit l) ≡ false = subst (λ (k : Listing). (back && unfit k) ≡ false) (listing-array l) h in
     rw t refl
 
-turned-back : (o : Outcome Listing) → outside (listing (listRead o .list)) ≡ true → listRead (refused 21) ≡ listRead (tried true o)
+turned-back : (o : Outcome Listing) → unfit (listing (listRead o .list)) ≡ true → listRead (refused 21) ≡ listRead (tried true o)
 unfolding firstRow outside any
 turned-back (refused n) h = let z : _≡_ {A = ℕ} 0 1 = cc in absurd (omega arith)
 turned-back (passed l) h =
-    let t : outside l ≡ true = subst (λ (k : Listing). outside k ≡ true) (listing-array l) h in
+    let t : unfit l ≡ true = subst (λ (k : Listing). unfit k ≡ true) (listing-array l) h in
     rw t refl
 
 module _ (w : Way) (s : List ℕ) {x : ListRead} (is : x ≡ listRead (readList (w .from) 512 s)) where
@@ -73,9 +87,9 @@ module _ (w : Way) (s : List ℕ) {x : ListRead} (is : x ≡ listRead (readList 
   pub goes-up : w .back ≡ false → x ≡ listRead (listFor w s)
   goes-up h = is ∙ finds (w .back) (readList (w .from) 512 s) (rw h refl)
 
-  module _ (back : w .back ≡ true) {t : Bool} (test : t ≡ outside (listing (x .list))) where
-    tested : outside (listing (listRead (readList (w .from) 512 s) .list)) ≡ t
-    tested = ap (λ (y : ListRead). outside (listing (y .list))) (sym is) ∙ sym test
+  module _ (back : w .back ≡ true) {t : Bool} (test : t ≡ unfit (listing (x .list))) where
+    tested : unfit (listing (listRead (readList (w .from) 512 s) .list)) ≡ t
+    tested = ap (λ (y : ListRead). unfit (listing (y .list))) (sym is) ∙ sym test
 
     pub goes-down : t ≡ false → x ≡ listRead (listFor w s)
     goes-down h = is ∙ finds (w .back) (readList (w .from) 512 s) (rw (back, tested, h) refl)
@@ -84,14 +98,14 @@ module _ (w : Way) (s : List ℕ) {x : ListRead} (is : x ≡ listRead (readList 
     row-21 h k = k ∙ turned-back (readList (w .from) 512 s) (tested ∙ h) ∙ ap (λ (b : Bool). listRead (tried b (readList (w .from) 512 s))) (sym back)
 
 -- a list that a way takes is read in its edition, and row 21 does not refuse it going back
-pub taken : (w : Way) (s : List ℕ) {l : Listing} → listFor w s ≡ passed l → (readList (w .from) 512 s ≡ passed l) × ((w .back && outside l) ≡ false)
+pub taken : (w : Way) (s : List ℕ) {l : Listing} → listFor w s ≡ passed l → (readList (w .from) 512 s ≡ passed l) × ((w .back && unfit l) ≡ false)
 taken w s {l} h = by-read (readList (w .from) 512 s) refl h
   where
-    by-read : (o : Outcome Listing) → readList (w .from) 512 s ≡ o → tried (w .back) o ≡ passed l → (readList (w .from) 512 s ≡ passed l) × ((w .back && outside l) ≡ false)
+    by-read : (o : Outcome Listing) → readList (w .from) 512 s ≡ o → tried (w .back) o ≡ passed l → (readList (w .from) 512 s ≡ passed l) × ((w .back && unfit l) ≡ false)
     by-read (refused n) r h = let z : _≡_ {A = ℕ} 0 1 = cc in absurd (omega arith)
     by-read (passed k) r h =
-        let c = clear (row 21 (w .back && outside k) ∷ []) h in
-        subst (λ (l : Listing). (readList (w .from) 512 s ≡ passed l) × ((w .back && outside l) ≡ false)) (c .1) (r, c .0 .0)
+        let c = clear (row 21 (w .back && unfit k) ∷ []) h in
+        subst (λ (l : Listing). (readList (w .from) 512 s ≡ passed l) × ((w .back && unfit l) ≡ false)) (c .1) (r, c .0 .0)
 
 -- ---- by what the list's reader gave back
 
@@ -116,7 +130,7 @@ module _ (w : Way) (s : List ℕ) {x : ListRead} (is : x ≡ listRead (listFor w
     pub few : x .list .count ≤ 512
     few = array-few (listFor w s) is count (w .from) s (λ l h. taken w s h .0)
 
-    pub in-range : T (depotsInRange (listing (x .list)))
+    pub in-range : T (inRange (listing (x .list)))
     in-range = array-range (listFor w s) is count (w .from) s (λ l h. taken w s h .0)
 
     pub list-done : (out : List ℕ) {r : Wrote} {last : List ℕ} → Written (listBytes (w .to) (listing (x .list))) out r last → WrittenOf (convertList w s out) out r last

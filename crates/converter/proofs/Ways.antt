@@ -1,9 +1,9 @@
 -- Document 02, d: what is converted reads as the same figures, passes exactly if it passed, and comes back as the same bytes. One argument for both ways. Assumes nothing.
-use mathlib.Core.Path.{_≡_, refl, sym, ap, _∙_, subst}
-use mathlib.Core.Bool.{Bool, true, false, not, _&&_, or-true}
+use mathlib.Core.Path.{_≡_, refl, sym, ap, ap₂, _∙_, subst}
+use mathlib.Core.Bool.{Bool, true, false, not, _&&_, _||_, or-true}
 use mathlib.Core.Logic.{_↔_, ⊎-elim}
 use mathlib.Core.List.{List, [], _∷_}
-use mathlib.Core.Option.{none}
+use mathlib.Core.Option.{Option, none, some}
 use Prim.Native.Nat.{ℕ, _*_, _<_, _≤_, _^_}
 use native.Mathlib.Nat.{lt-of-lt-of-le}
 use native.Mathlib.Omega.{arith}
@@ -23,11 +23,11 @@ use Rattle.records.specs.Record.{wrongMark}
 use Rattle.records.specs.Values.{Plan}
 use Rattle.records.specs.Outcome.{Outcome, refused, passed, gate, bind}
 use Rattle.records.specs.Format.{edition1, edition2, editionOf, readList, readPlan}
-use Rattle.records.specs.Write.{listBytes, planBytes, isShort, fitted, WrittenOf, All, Marked, Allowed, Good}
+use Rattle.records.specs.Write.{listBytes, planBytes, isShort, fitted, WrittenOf, All, Marked, Allowed, Good, Whole, Crewed}
 use Rattle.records.specs.Files.{Files, files, fittedBoth, WrittenBoth}
 use Rattle.records.proofs.Records.{all-from, all-at}
-use Rattle.records.proofs.Outcomes.{clear, gate-numbered, bind-numbered, list-numbered}
-use Rattle.records.proofs.RoundTrip.{list-read, list-back, list-again, list-allowed, list-good, list-few, list-depots, laid-read, plan-read}
+use Rattle.records.proofs.Outcomes.{clear, or-false, gate-numbered, bind-numbered, list-numbered}
+use Rattle.records.proofs.RoundTrip.{list-read, list-back, list-again, list-allowed, list-good, list-few, list-range, laid-read, plan-read}
 use Rattle.records.proofs.Samples.{marked1, marked2}
 use Rattle.records.proofs.Files.{front-of, fronts-of, fitted-room, both-room}
 use Rattle.readers.proofs.Editions.{names1, names2}
@@ -35,7 +35,7 @@ use Rattle.judge.specs.Check.{judgedFor, judged, checkRow, checkedRow, True}
 use Rattle.judge.proofs.Truth.{judged-read, judged-numbered, judged-true, true-judged}
 use Rattle.judge.proofs.Widths.{true-over}
 use Rattle.converter.specs.declared.Way.{Way}
-use Rattle.converter.specs.Convert.{upgrade, downgrade, way, isOutside, outside, listFor, convertList, convertPlan, SameList, SamePlan}
+use Rattle.converter.specs.Convert.{upgrade, downgrade, way, isOutside, outside, hasRoll, unfit, listFor, convertList, convertPlan, SameList, SamePlan}
 use Rattle.converter.proofs.Found.{taken}
 
 -- ---- the two ways
@@ -57,10 +57,10 @@ fits-down l h i k =
     let small : w ≤ 65535 = nltb→le 65535 w (not-T (ltb 65535 w) (λ t. fails (any test (length (l .sites))) h (any-from test (length (l .sites)) i k (or-r (eqb w 0) (ltb 65535 w) t)))) in
     omega arith
 
--- row 21 refuses no list whose sites edition 1 has
-comes-back : (l : Listing) → All (Good edition1) (l .sites) → outside l ≡ false
+-- the litres of sites that edition 1 has are not outside
+inside : (l : Listing) → All (Good edition1) (l .sites) → outside l ≡ false
 unfolding outside
-comes-back l good =
+inside l good =
     is-false (any test (length (l .sites))) (λ t.
     let (i, k, u) = any-at test (length (l .sites)) t in
     let g = all-at (Good edition1) noSite (l .sites) good i k in
@@ -70,6 +70,10 @@ comes-back l good =
   where
     test : ℕ → Bool
     test i = isOutside (siteAt l i)
+
+-- row 21 refuses no list without a roll whose sites edition 1 has
+comes-back : (l : Listing) → l .roll ≡ none → All (Good edition1) (l .sites) → unfit l ≡ false
+comes-back l bare good = ap₂ (λ (a b : Bool). a || b) (inside l good) (ap hasRoll bare)
 
 marked : (back : Bool) → Marked (way back .to)
 marked false = marked2
@@ -82,13 +86,26 @@ wide true = lit≤ tt
 -- a list that a way takes fits the edition it goes to
 fits : (back : Bool) (s : List ℕ) {l : Listing} → Bytes s → listFor (way back) s ≡ passed l → Litres (way back .to .litres) l
 fits false s {l} b h = fits-up s l b (taken upgrade s h .0)
-fits true s {l} b h = fits-down l (taken downgrade s h .1)
+fits true s {l} b h = fits-down l (or-false (outside l) (hasRoll (l .roll)) (taken downgrade s h .1) .0)
+
+-- a list of edition 1 has no roll
+bare-1 : (s : List ℕ) {l : Listing} → readList edition1 512 s ≡ passed l → l .roll ≡ none
+bare-1 s r = sym (list-read edition1 512 s r .roll)
+
+no-roll : (o : Option (List ℕ)) → hasRoll o ≡ false → o ≡ none
+no-roll none h = refl
+no-roll (some roll) h = let z : _≡_ {A = ℕ} 0 1 = cc in absurd (omega arith)
+
+-- nor has one that a way takes
+bare : (back : Bool) (s : List ℕ) {l : Listing} → listFor (way back) s ≡ passed l → l .roll ≡ none
+bare false s h = bare-1 s (taken upgrade s h .0)
+bare true s {l} h = no-roll (l .roll) (or-false (outside l) (hasRoll (l .roll)) (taken downgrade s h .1) .1)
 
 -- figures that came from there are taken back
 takes : (back : Bool) (s t : List ℕ) {l : Listing} → Bytes t → readList (way back .from) 512 s ≡ passed l → readList (way back .to) 512 t ≡ passed l → listFor (way back) s ≡ passed l
 unfolding firstRow
 takes false s t b r k = rw r refl
-takes true s t {l} b r k = rw (r, comes-back l (list-good edition1 512 t b k)) refl
+takes true s t {l} b r k = rw (r, comes-back l (bare-1 t k) (list-good edition1 512 t b k)) refl
 
 -- what a way writes, the other reads
 other-to : (back : Bool) → way (not back) .to ≡ way back .from
@@ -108,9 +125,14 @@ module _ (back : Bool) (s : List ℕ) {l : Listing} (bytes : Bytes s) (took : li
   few : length (l .sites) ≤ 512
   few = list-few (way back .from) 512 s read-in .0
 
+  crewed : Crewed (way back .to) l
+  crewed =
+      let r = list-read (way back .from) 512 s read-in in
+      record { whole = subst (Whole (way back .to)) (sym (bare back s took)) tt; few = r .few-crews; named = r .crewed }
+
   read-over : readList (way back .to) 512 (listBytes (way back .to) l) ≡ passed l
   read-over =
-      list-back (way back .to) (marked back) l few 512 few
+      list-back (way back .to) (marked back) l few crewed 512 few
       (all-from (Good (way back .to)) noSite (l .sites) (λ i k. record { allowed = all-at Allowed noSite (l .sites) (list-allowed (way back .from) 512 s read-in) i k; fits = fits back s bytes took i k }))
 
   again : listBytes (way back .from) l ≡ s
@@ -125,13 +147,13 @@ module _ (back : Bool) (s : List ℕ) {l : Listing} (bytes : Bytes s) (took : li
   -- a plan that passes with it
   module _ (plan : List ℕ) {p : Plan} (plan-bytes : Bytes plan) (passes : judgedFor (way back .from) l plan ≡ passed p) where
     true-in : True (way back .from) l p plan
-    true-in = judged-true (way back .from) l (list-depots (way back .from) 512 s read-in) plan p plan-bytes passes
+    true-in = judged-true (way back .from) l (list-range (way back .from) 512 s read-in) plan p plan-bytes passes
 
     true-out : True (way back .to) l p (planBytes (way back .to) p)
-    true-out = true-over (way back .from) (way back .to) l p (wide back) (fits back s bytes took) true-in
+    true-out = true-over (way back .from) (way back .to) l (list-range (way back .from) 512 s read-in) p (wide back) (fits back s bytes took) true-in
 
     judged-over : judgedFor (way back .to) l (planBytes (way back .to) p) ≡ passed p
-    judged-over = true-judged (way back .to) l (list-depots (way back .from) 512 s read-in) (planBytes (way back .to) p) p (marked back) few true-out
+    judged-over = true-judged (way back .to) l (list-range (way back .from) 512 s read-in) (planBytes (way back .to) p) p (marked back) few true-out
 
 -- the edition that a list's first bytes name is that in which it reads
 from-named : (back : Bool) (s : List ℕ) {l : Listing} → readList (way back .from) 512 s ≡ passed l → editionOf s ≡ way back .from
@@ -288,17 +310,20 @@ pub up-taken : (s : List ℕ) → listFor upgrade s ≡ readList edition1 512 s
 unfolding firstRow
 up-taken s = by-read (readList edition1 512 s)
   where
-    by-read : (o : Outcome Listing) → bind o (λ (l : Listing). gate (row 21 (false && outside l) ∷ []) l) ≡ o
+    by-read : (o : Outcome Listing) → bind o (λ (l : Listing). gate (row 21 (false && unfit l) ∷ []) l) ≡ o
     by-read (refused n) = refl
     by-read (passed l) = refl
 
--- "and back where every figure fits": going back, a list of edition 2 is taken exactly if edition 1 has each of its sites
-pub down-taken : (s : List ℕ) {l : Listing} → readList edition2 512 s ≡ passed l → (listFor downgrade s ≡ passed l) ↔ All (Good edition1) (l .sites)
+-- "and back where every figure fits": going back, a list of edition 2 is taken exactly if edition 1 has each of its sites and it has no roll
+pub down-taken : (s : List ℕ) {l : Listing} → readList edition2 512 s ≡ passed l → (listFor downgrade s ≡ passed l) ↔ (All (Good edition1) (l .sites) × (l .roll ≡ none))
 unfolding firstRow
 down-taken s {l} r = (
-  λ h. all-from (Good edition1) noSite (l .sites)
-      (λ i k. record { allowed = all-at Allowed noSite (l .sites) (list-allowed edition2 512 s r) i k; fits = fits-down l (taken downgrade s h .1) i k }),
-  λ good. rw (r, comes-back l good) refl,
+  λ h. (
+    all-from (Good edition1) noSite (l .sites)
+        (λ i k. record { allowed = all-at Allowed noSite (l .sites) (list-allowed edition2 512 s r) i k; fits = fits-down l (or-false (outside l) (hasRoll (l .roll)) (taken downgrade s h .1) .0) i k }),
+    bare true s h,
+  ),
+  λ (good, unrolled). rw (r, comes-back l unrolled good) refl,
 )
 
 -- Check's answer depends on the figures alone: a list and a plan that read as the same figures in the two editions get the same row, or pass, in both; so one passes exactly if the
@@ -343,7 +368,7 @@ plan-room w s plan out other x h =
 
 taken-numbered : (w : Way) (s : List ℕ) (n : ℕ) → listFor w s ≡ refused n → 0 < n
 taken-numbered w s =
-    bind-numbered (readList (w .from) 512 s) _ (list-numbered (w .from) 512 s) (λ (l : Listing). gate-numbered (row 21 (w .back && outside l) ∷ []) tt l)
+    bind-numbered (readList (w .from) 512 s) _ (list-numbered (w .from) 512 s) (λ (l : Listing). gate-numbered (row 21 (w .back && unfit l) ∷ []) tt l)
 
 pub list-row-numbered : (w : Way) (s out : List ℕ) (n : ℕ) → convertList w s out ≡ refused n → 0 < n
 list-row-numbered w s out =

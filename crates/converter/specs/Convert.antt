@@ -1,6 +1,7 @@
 -- Document 02, d: files between editions. "A converter turns an edition 1 list or plan into edition 2, with the same figures in the same order, and back where every figure fits."
 use mathlib.Core.Bool.{Bool, true, false, cond, _&&_, _||_}
 use mathlib.Core.List.{List, [], _∷_}
+use mathlib.Core.Option.{Option, none, some}
 use mathlib.Core.Path.{_≡_}
 use Prim.Native.Nat.{ℕ, _<_, _≤_, _^_}
 use lib.Dec.{eqb, ltb}
@@ -35,9 +36,18 @@ isOutside x = eqb (x .litres) 0 || ltb 65535 (x .litres)
 unfoldable pub outside : Listing → Bool
 outside l = any (λ i. isOutside (siteAt l i)) (length (l .sites))
 
--- "The list is read first by all its rows"; "21, going back, if a site's litres are outside 1 to 65,535; after all rows of the list, before the plan is read"
+-- Document 02, g: "row 21 also refuses a list with" a roll
+abbrev pub hasRoll : Option (List ℕ) → Bool
+hasRoll none = false
+hasRoll (some roll) = true
+
+abbrev pub unfit : Listing → Bool
+unfit l = outside l || hasRoll (l .roll)
+
+-- "The list is read first by all its rows"; "21, going back, if a site's litres are outside 1 to 65,535; after all rows of the list, before the plan is read"; g: and if
+-- it has a roll
 abbrev pub listFor : Way → List ℕ → Outcome Listing
-listFor w list = bind (readList (w .from) 512 list) (λ (l : Listing). gate (row 21 (w .back && outside l) ∷ []) l)
+listFor w list = bind (readList (w .from) 512 list) (λ (l : Listing). gate (row 21 (w .back && unfit l) ∷ []) l)
 
 -- a list alone: what is written, or the row that refuses, of which "row 20 comes last"
 abbrev pub convertList : Way → List ℕ → List ℕ → Outcome (List ℕ)

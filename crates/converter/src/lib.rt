@@ -16,7 +16,7 @@ ghost use Rattle.records.specs.Values.{listing};
 ghost use Rattle.records.specs.Answer.{listRead};
 ghost use Rattle.records.specs.Write.{WrittenOf};
 ghost use Rattle.records.specs.Files.{WrittenBoth};
-ghost use Rattle.converter.specs.Convert.{isOutside, outside, upgrade, downgrade, listFor, convertList, convertPlan};
+ghost use Rattle.converter.specs.Convert.{isOutside, outside, unfit, upgrade, downgrade, listFor, convertList, convertPlan};
 
 // A way: the edition of what is given, the edition of what is written, and whether it goes back.
 pub struct Way {
@@ -71,7 +71,16 @@ fn any_outside(list: ListArray) -> bool
     false
 }
 
-// The list that a way takes, or the row that refuses it: rows 1 to 6, and going back row 21. Where rows 1 to 6 refuse, the list given back has no site, so that row 21 does not apply.
+// Row 21: has the list a site that edition 1 does not have, or a roll?
+fn is_unfit(list: ListArray) -> bool
+    requires { ⌜ list .count ≤ 512 ⌝ }
+    ensures { λ r. ⌜ r ≡ unfit (listing list) ⌝ }
+{
+    let roll = list.roll;
+    scan::either(any_outside(list), roll.there)
+}
+
+// The list that a way takes, or the row that refuses it: the rows of a list, and going back row 21. Where those refuse, the list given back has neither a site nor a roll, so that row 21 does not apply.
 fn list_for(w: Way, list: &[u8]) -> ListRead
     requires { ⌜ w .from .litres ≤ 4 ⌝ }
     ensures { λ r. ⌜ r ≡ listRead (listFor w (now (list .entry))) ⌝ }
@@ -79,7 +88,7 @@ fn list_for(w: Way, list: &[u8]) -> ListRead
     let found = readers::list::read(w.from, 512, list);
     if w.back {
         let l = found.list;
-        if any_outside(l) {
+        if is_unfit(l) {
             return no_list(21);
         }
     }

@@ -1,12 +1,14 @@
 // Desks and tables that no history leaves behind, put to the desk's entry of each edition. Where row 0 applies, every call but load is refused by it, and the desk, the table and the
 // buffer come back as they were; load works. Where only rows 15 or 16 would refuse the held plan, or the content lies beyond what is held, the desk answers from what it holds.
-// Then tables of 0, 3, 512 and 600 places: a call stores what it is to store, and every other place keeps its content. Last, figures that only edition 2 can hold.
+// Then tables of 0, 3, 512 and 600 places: a call stores what it is to store, and every other place keeps its content. Last, what only edition 2 can hold: large figures and rolls.
 use density::Site;
 use edition1::Request1;
 use edition1::narrow_store;
 use edition1::widen_store;
 use entries1::call_on1;
 use held_state::Store;
+use records::RollArray;
+use records::no_roll;
 use store::Answer;
 use store::Request;
 use store_entries2::call_on2;
@@ -68,6 +70,40 @@ fn planned(d: Desk, grouped: usize, g: u64, h: u64, s: u64, u: u64) -> Desk {
         table,
         places: d.places,
     }
+}
+
+// A roll, or none with these bytes beside it: the crews of depots 0 and 1, and of all others alike.
+fn roll_of(there: bool, first: u8, second: u8, others: u8) -> RollArray {
+    let mut crews = [others; 64];
+    crews[0] = first;
+    crews[1] = second;
+    RollArray { there, crews }
+}
+
+// The desk with this roll or none.
+fn with_roll(d: Desk, roll: RollArray) -> Desk {
+    let held = d.store;
+    let table = d.table;
+    let groups = held.groups;
+    let shares = held.shares;
+    let store = Store {
+        count: held.count,
+        held: held.held,
+        grouped: held.grouped,
+        groups,
+        shares,
+        roll,
+    };
+    Desk {
+        edition: d.edition,
+        store,
+        table,
+        places: d.places,
+    }
+}
+
+fn crewed(d: Desk, first: u8, second: u8, others: u8) -> Desk {
+    with_roll(d, roll_of(true, first, second, others))
 }
 
 // A table and a request at edition 1's widths, and a table as the definition has it.
@@ -141,6 +177,16 @@ fn same_table(a: [Site; 600], b: [Site; 600]) -> bool {
     true
 }
 
+// Are both rolls there or both not, with the same bytes?
+fn same_roll(a: RollArray, b: RollArray) -> bool {
+    if a.there != b.there {
+        return false;
+    }
+    let x = a.crews;
+    let y = b.crews;
+    check::same(&x, &y)
+}
+
 fn same_store(a: Store, b: Store) -> bool {
     if a.count != b.count {
         return false;
@@ -149,6 +195,11 @@ fn same_store(a: Store, b: Store) -> bool {
         return false;
     }
     if a.grouped != b.grouped {
+        return false;
+    }
+    let x = a.roll;
+    let y = b.roll;
+    if !same_roll(x, y) {
         return false;
     }
     same_plan(a, b)
@@ -302,17 +353,39 @@ fn lists(d: Desk, n: usize, whole: &[u8]) -> bool {
     check::same(&buffer, whole)
 }
 
-// The call is done, no plan is held then and this many sites are, and all places for groups and shares are zero.
-fn clears(d: Desk, request: Request, input: &[u8], count: usize) -> bool {
+// The call is done, and the desk is this one then.
+fn leaves(d: Desk, request: Request, input: &[u8], expected: Store) -> bool {
     let left = called(d, request, input);
     let answer = left.answer;
     if !same_answer(answer, Answer::Done) {
         return false;
     }
     let after = left.store;
-    let mut bare = fresh2();
-    bare.count = count;
-    same_store(after, bare)
+    same_store(after, expected)
+}
+
+// A desk of this many sites and no plan, whose places for groups and shares are zero.
+fn bare(count: usize, roll: RollArray) -> Store {
+    Store {
+        count,
+        held: false,
+        grouped: 0,
+        groups: [0; 64],
+        shares: [0; 512],
+        roll,
+    }
+}
+
+// The call is done, this many sites are held then, and no plan and no roll.
+fn clears(d: Desk, request: Request, input: &[u8], count: usize) -> bool {
+    leaves(d, request, input, bare(count, no_roll()))
+}
+
+// So it is, but the desk keeps its roll.
+fn keeps_roll(d: Desk, request: Request, count: usize) -> bool {
+    let store = d.store;
+    let roll = store.roll;
+    leaves(d, request, b"", bare(count, roll))
 }
 
 // A call with no input that changes nothing, and one that is done.
@@ -686,6 +759,50 @@ fn large_stored(start: Tally) -> Tally {
     tallied(u, stores(d, Request::Load, list, 1, 0, site(0, 1, 65536)))
 }
 
+// Row 22: a byte of a held roll above 9, of a depot that a site names, of one that none names, and where there is no site.
+fn corrupt_rolls(start: Tally) -> Tally {
+    let x = site(0, 1, 10);
+    let one = listed(2, 1, x, x, x, 2);
+    let t = corrupt(start, crewed(one, 10, 1, 0));
+    let u = corrupt(t, crewed(one, 1, 1, 255));
+    corrupt(u, crewed(listed(2, 0, x, x, x, 2), 0, 0, 10))
+}
+
+// Row 23: a held site whose first or second depot has no crew, without a plan and with one, and behind a sound site.
+fn corrupt_crews(start: Tally) -> Tally {
+    let x = site(0, 1, 10);
+    let one = listed(2, 1, x, x, x, 2);
+    let t = corrupt(start, crewed(one, 0, 1, 1));
+    let u = corrupt(t, crewed(one, 9, 0, 9));
+    let v = corrupt(u, crewed(planned(one, 1, 3, 0, 10, 0), 1, 0, 1));
+    let own = site(0, 0, 10);
+    corrupt(v, crewed(listed(2, 2, own, x, x, 2), 1, 0, 0))
+}
+
+// The site (0,1) of 12 litres with three crews and one, and its plan: 36 of 48. An added site needs crews, and a change and an add keep the roll.
+fn rolled(start: Tally) -> Tally {
+    let x = site(0, 1, 12);
+    let one = crewed(listed(2, 1, x, x, x, 2), 3, 1, 0);
+    let d = planned(one, 1, 3, 0, 36, 0);
+    let t = asked(start, d, Request::Share(0), Answer::Share(36, 48));
+    let u = asked(t, d, Request::Depot(1), Answer::Depot(12, 4));
+    let v = asked(u, d, Request::ListWritten, Answer::Refused(20));
+    let w = asked(v, d, Request::Add(0, 2, 1), Answer::Refused(23));
+    let y = tallied(w, keeps_roll(d, Request::Add(1, 0, 1), 2));
+    loaded(tallied(y, keeps_roll(d, Request::Change(0, 1), 1)), d)
+}
+
+// Bytes beside "no roll" are no corruption, and each depot has one crew.
+fn beside_no_roll(start: Tally) -> Tally {
+    let x = site(0, 1, 10);
+    let one = with_roll(listed(2, 1, x, x, x, 2), roll_of(false, 255, 0, 0));
+    let d = planned(one, 1, 3, 0, 10, 0);
+    let t = asked(start, d, Request::Share(0), Answer::Share(10, 20));
+    let u = asked(t, d, Request::Depot(1), Answer::Depot(10, 2));
+    let v = written_t(u, d);
+    tallied(v, keeps_roll(d, Request::Add(2, 3, 4), 2))
+}
+
 // The cases of an edition.
 fn desks(start: Tally, e: u8) -> Tally {
     let lists = corrupt_sites(corrupt_counts(start, e), e);
@@ -710,4 +827,6 @@ fn main() {
     tally::print(b"the other edition", others);
     let large = large_stored(large_corrupt(large_own(large(none))));
     tally::print(b"large figures", large);
+    let rolls = beside_no_roll(rolled(corrupt_crews(corrupt_rolls(none))));
+    tally::print(b"rolls", rolls);
 }

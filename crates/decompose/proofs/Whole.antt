@@ -12,14 +12,15 @@ use Rattle.sets.specs.Set.{has, setOf}
 use Rattle.sets.specs.Sum.{sum}
 use Rattle.sets.proofs.Member.{has-set}
 use Rattle.sets.proofs.Sum.{sum-≤}
-use Rattle.density.specs.Network.{Network, Valid, depotsInRange, network, noSite, end}
+use Rattle.density.specs.Network.{Network, Valid, crewsOf, inRange, network, noSite, end}
 use Rattle.density.specs.Plan.{TruePlan}
 use Rattle.density.specs.declared.Site.{Site}
 use Rattle.density.proofs.Existence.{decomposition-is}
-use Rattle.density.proofs.Lists.{valid}
-use Rattle.records.specs.Values.{listing}
+use Rattle.density.proofs.Lists.{valid, range-roll}
+use Rattle.records.specs.Values.{rollIn, listing}
 use Rattle.records.specs.declared.ListArray.{ListArray}
-use Rattle.tables.specs.Tables.{net}
+use Rattle.tables.specs.Tables.{net, Holds as CrewsIn}
+use Rattle.tables.proofs.Groups.{crews-few}
 use Rattle.tables.proofs.Sites.{count-is, site-is, site-small}
 use Rattle.residual.specs.Array.{at}
 use Rattle.residual.specs.Search.{Linking, reverse}
@@ -56,12 +57,6 @@ link-begins ends e = record {
   next = λ k l. absurd (omega arith);
 }
 
-one-crew : (d : ℕ) → d < 64 → at (replicate 64 1) d ≡ 1
-one-crew d l = getD-replicate 64 d 1 0 l
-
-crews-sum : sum (at (replicate 64 1)) 64 ≤ 64
-crews-sum = omega (arith, sum-≤ (at (replicate 64 1)) 1 64 (λ i l. omega (arith, one-crew i l)))
-
 module _ {table : List Site} {ends litres : List ℕ} {n : ℕ} (f : Filling table ends litres n)
     (small : (k : ℕ) → k < n → (getD table k noSite .first < 64) × (getD table k noSite .second < 64)) where
   -- a site's depot, or none
@@ -88,8 +83,8 @@ module _ {table : List Site} {ends litres : List ℕ} {n : ℕ} (f : Filling tab
   litres-sum = sum-≤ (at litres) (2 ^ 32) 512 litre-most
 
   -- the arrays hold a network that is valid
-  tables-of : {N : Network} {all : ℕ} → Valid N → Holds N ends litres (replicate 64 1) all → Tables ends litres (replicate 64 1) all
-  tables-of {N} ok h = record {
+  tables-of : {N : Network} {crews : List ℕ} {all : ℕ} → Valid N → length crews ≡ 64 → ((d : ℕ) → d < 64 → at crews d ≤ 9) → Holds N ends litres crews all → Tables ends litres crews all
+  tables-of {N} {crews} ok size most-crews h = record {
     paired = record {
       size = f .arcs;
       both = λ j h e. let s = side j h in ⊎-elim
@@ -105,21 +100,22 @@ module _ {table : List Site} {ends litres : List ℕ} {n : ℕ} (f : Filling tab
       none = λ k l h. ⊎-elim (λ (z : at ends (512 + k) < 64). absurd (omega (arith, both false true k l z))) (λ z. z) (below? (at ends (512 + k)) 64);
       void = λ k l h. ⊎-elim (λ z. absurd (omega (arith, z .1))) (λ z. f .none k (z .0) l) (depots true k l);
     };
-    crew = refl;
-    ones = one-crew;
+    crew = size;
+    most-crews = most-crews;
     network = N;
     valid = ok;
     holds = h;
     litre-fits = omega (arith, litres-sum);
-    fits = omega (arith, litres-sum, mul-le-mul-right (sum (at litres) 512) crews-sum);
+    fits = omega (arith, litres-sum, mul-le-mul-right (sum (at litres) 512) (sum-≤ (at crews) 9 64 most-crews));
   }
 
-module _ (list : ListArray) (few : list .count ≤ 512) (range : T (depotsInRange (listing list))) (wide : length (list .sites) ≡ 512) {ends litres : List ℕ}
-    (f : Filling (list .sites) ends litres (list .count)) {all : ℕ} (is : all ≡ setOf (net list .listed) 64) where
+module _ (list : ListArray) (few : list .count ≤ 512) (range : T (inRange (listing list))) (wide : length (list .sites) ≡ 512) {ends litres : List ℕ}
+    (f : Filling (list .sites) ends litres (list .count)) {all : ℕ} (is : all ≡ setOf (net list .listed) 64)
+    (crews : List ℕ) (each : CrewsIn crews (crewsOf (rollIn (list .roll))) 64) where
   ok : Valid (net list)
   ok = valid (listing list) range
 
-  held : Holds (net list) ends litres (replicate 64 1) all
+  held : Holds (net list) ends litres crews all
   unfolding network
   held = record {
     few = omega (arith, count-is list wide few);
@@ -127,14 +123,14 @@ module _ (list : ListArray) (few : list .count ≤ 512) (range : T (depotsInRang
     litre = λ i l. let z : i < list .count = omega (arith, count-is list wide few) in f .litre i z ∙ sym (ap (λ (s : Site). s .litres) (site-is list wide few i z));
     none = λ i l h. f .none i (omega (arith, count-is list wide few)) h;
     blank = λ e i l h. omega (arith, f .blank e i (omega (arith, count-is list wide few)) h);
-    crew = one-crew;
+    crew = each;
     list = λ d. ap (λ (n : ℕ). has n d) is ∙ has-set 64 (net list .listed) (ok .small) d;
   }
 
-  pub tables : Tables ends litres (replicate 64 1) all
-  tables = tables-of f (site-small list wide few range) ok held
+  pub tables : length crews ≡ 64 → Tables ends litres crews all
+  tables size = tables-of f (site-small list wide few range) ok size (crews-few (list .roll) crews each (range-roll (listing list) range)) held
 
-  pub planned : {share groups shares : List ℕ} {n : ℕ} → Grouped ends litres (replicate 64 1) all share groups n → Copied share (list .count) shares
+  pub planned : {share groups shares : List ℕ} {n : ℕ} → Grouped ends litres crews all share groups n → Copied share (list .count) shares
       → Planned list (record { count = n; groups = groups; shares = shares })
   planned {share} {groups} {shares} {n} p c =
       let plan : TruePlan (net list) (take n groups) (take (list .count) shares) =

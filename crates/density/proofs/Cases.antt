@@ -7,12 +7,12 @@ use lib.Dec.{T, eqb, ltb}
 use lib.ListN.{length, getD}
 use Rattle.sets.specs.Sum.{sum, all, any}
 use Rattle.sets.specs.Set.{∅, _∖_, has, setOf, isEmpty, weigh, lowest}
-use Rattle.density.specs.Network.{network, depotsInRange, litres, size}
+use Rattle.density.specs.Network.{network, depotsInRange, crewsAbove, sitesUncrewed, inRange, litres, size}
 use Rattle.density.specs.Groups.{exceeds, best, nextGroup, groupsFrom}
 use Rattle.density.specs.Plan.{union, group, before, place, carrier, groupSize, groupLitres, whole, firstShare, secondShare, shareOf, target}
 use Rattle.density.specs.Rows.{firstRow, groupsMeet, groupsUnlisted, shareBroken, sharesBroken, scaledLoad, loadsUneven, groupsRise, planRows}
 use Rattle.density.specs.Figures.{groupsRead, depotsRead, everyGroup}
-use Rattle.density.specs.Examples.{Example, noSites, starred, nineSites, Refused, refused, noRefusal, Reading, reading, ownSites, readings}
+use Rattle.density.specs.Examples.{Example, noSites, starred, withCrews, nineSites, Refused, refused, noRefusal, Reading, reading, ownSites, readings}
 
 -- two lists are the same
 unfoldable pub same : List ℕ → List ℕ → Bool
@@ -24,7 +24,7 @@ same (x ∷ xs) (y ∷ ys) = eqb x y && same xs ys
 -- the depots are below w, and the definition, run over every set of such depots, gives the groups
 unfoldable pub grouped : ℕ → Example → Bool
 grouped w e =
-    depotsInRange (e .list)
+    inRange (e .list)
     && isEmpty (network (e .list) .listed ∖ (λ d. ltb d w)) 64
     && same (groupsFrom (network (e .list)) w ∅ (size (network (e .list)) (network (e .list) .listed))) (e .groups)
     && all (λ k. eqb (groupLitres (network (e .list)) (e .groups) k) (getD (e .litres) k 0)) (length (e .groups))
@@ -59,12 +59,16 @@ readsSo x =
 -- ---- computed over the tables
 
 pub computed-groups : T (all (λ k. grouped 3 (getD starred k noSites)) (length starred))
-unfolding grouped same starred sum all any has weigh size network depotsInRange litres exceeds best nextGroup groupsFrom place union carrier groupSize groupLitres
+unfolding grouped same starred sum all any has weigh size network depotsInRange crewsAbove sitesUncrewed inRange litres exceeds best nextGroup groupsFrom place union carrier groupSize groupLitres
 computed-groups = tt
 
 pub computed-nine : T (grouped 6 nineSites)
-unfolding grouped same nineSites sum all any has weigh size network depotsInRange litres exceeds best nextGroup groupsFrom place union carrier groupSize groupLitres
+unfolding grouped same nineSites sum all any has weigh size network depotsInRange crewsAbove sitesUncrewed inRange litres exceeds best nextGroup groupsFrom place union carrier groupSize groupLitres
 computed-nine = tt
+
+pub computed-crews : T (all (λ k. grouped 3 (getD withCrews k noSites) && passes (getD withCrews k noSites)) (length withCrews))
+unfolding grouped same passes isNone withCrews sum all any has weigh size network depotsInRange crewsAbove sitesUncrewed inRange litres exceeds best nextGroup groupsFrom firstRow planRows groupsMeet groupsUnlisted sharesBroken shareBroken loadsUneven scaledLoad shareOf target groupsRise place union carrier groupSize groupLitres whole firstShare secondShare
+computed-crews = tt
 
 pub computed-plans : T (all (λ k. passes (getD starred k noSites)) (length starred))
 unfolding passes isNone starred sum all any has weigh size network firstRow planRows groupsMeet groupsUnlisted sharesBroken shareBroken loadsUneven scaledLoad shareOf target groupsRise place union carrier groupSize groupLitres whole firstShare secondShare

@@ -1,7 +1,7 @@
 -- The starred lists, the nine sites, the refused plans and thresholds: what the computed tests say. The groups of a starred list are found twice, by the
 -- definition run over every set and by the rows on its plan. Assumes nothing.
 use mathlib.Core.Path.{_≡_, refl, sym, _∙_}
-use mathlib.Core.Bool.{true, false}
+use mathlib.Core.Bool.{true, false, _&&_}
 use mathlib.Core.List.{List, [], _∷_}
 use mathlib.Core.Option.{Option, none, some}
 use Prim.Native.Nat.{ℕ, _≤_, _<_, _^_}
@@ -14,11 +14,11 @@ use Rattle.density.specs.Groups.{groupsFrom}
 use Rattle.density.specs.Plan.{group, before, groupSize, groupLitres, Formed, TruePlan}
 use Rattle.density.specs.Figures.{reaches}
 use Rattle.density.specs.Rows.{firstRow, planRows}
-use Rattle.density.specs.Examples.{Example, noSites, starred, Grouped, Known, nineSites, refused, noRefusal, GetsRow, reading, readings, ReadsSo}
+use Rattle.density.specs.Examples.{Example, noSites, starred, withCrews, Grouped, Known, nineSites, refused, noRefusal, GetsRow, reading, readings, ReadsSo}
 use Rattle.sets.proofs.Test.{and-l, and-r}
 use Rattle.sets.proofs.Sum.{all-at}
 use Rattle.sets.proofs.Set.{subset-of}
-use Rattle.density.proofs.Cases.{same, grouped, isNone, passes, hasRow, getsRow, computed-groups, computed-nine, computed-plans, computed-refusals, readsSo, computed-readings}
+use Rattle.density.proofs.Cases.{same, grouped, isNone, passes, hasRow, getsRow, computed-groups, computed-nine, computed-plans, computed-crews, computed-refusals, readsSo, computed-readings}
 use Rattle.density.proofs.Lists.{valid}
 use Rattle.density.proofs.Checks.{no-row}
 use Rattle.density.proofs.Existence.{run-is}
@@ -79,6 +79,14 @@ starred-known k l =
       grouped = grouped→ 3 (lit≤ tt) e t;
       plan = passes→ e (grouped-valid 3 e t) (all-at (λ k. passes (getD starred k noSites)) (length starred) computed-plans k l);
     }
+
+-- the same of the lists with crews
+pub crews-known : (k : ℕ) → k < length withCrews → Known (getD withCrews k noSites)
+crews-known k l =
+    let e = getD withCrews k noSites in
+    let t = all-at (λ k. grouped 3 (getD withCrews k noSites) && passes (getD withCrews k noSites)) (length withCrews) computed-crews k l in
+    let g = and-l (grouped 3 e) (passes e) t in
+    record { grouped = grouped→ 3 (lit≤ tt) e g; plan = passes→ e (grouped-valid 3 e g) (and-r (grouped 3 e) (passes e) t) }
 
 -- the nine sites: not the innermost core {0,1,2,3}, which has 1.5 litres per depot, but {0,1,2,3,4} with 1.6
 pub nine-grouped : Grouped nineSites

@@ -19,3 +19,4 @@ pub mod Split
 pub mod Made
 pub mod Units
 pub mod SharesExist
+pub mod Rolls

@@ -14,7 +14,7 @@ use Rattle.sets.proofs.Test.{or-l, or-r, or-cases, and-i, and-l, and-r, T?, eq�
 use Rattle.sets.proofs.Sum.{sum-cong, sum-mono, sum-mul}
 use Rattle.sets.proofs.Member.{ext, setOf-lt, has-set}
 use Rattle.density.specs.declared.Site.{Site}
-use Rattle.density.specs.Network.{Listing, Network, network, depotsInRange, Valid, touches, within, counts, litres, size, end}
+use Rattle.density.specs.Network.{Listing, Network, network, inRange, Valid, touches, within, counts, litres, size, end}
 use Rattle.density.specs.Groups.{Next, Decomposition, groupsOf}
 use Rattle.density.specs.Plan.{group, before, carrier, groupSize, whole, firstShare, secondShare, Formed, TruePlan, Falling}
 use Rattle.density.proofs.Next.{next-densest, density}
@@ -327,6 +327,6 @@ module _ (N : Network) (ok : Valid N) (gs : List ℕ) (D : Decomposition N gs) w
 pub shares-exist : (N : Network) → Valid N → (ss : List ℕ) × TruePlan N (groupsOf N) ss
 shares-exist N ok = (ss N ok (groupsOf N) (computed N ok), plan N ok (groupsOf N) (computed N ok))
 
--- the same of a list whose depots are in range
-pub list-shares-exist : (l : Listing) → T (depotsInRange l) → (ss : List ℕ) × TruePlan (network l) (groupsOf (network l)) ss
+-- the same of a list that rows 5, 22 and 23 do not refuse
+pub list-shares-exist : (l : Listing) → T (inRange l) → (ss : List ℕ) × TruePlan (network l) (groupsOf (network l)) ss
 list-shares-exist l h = shares-exist (network l) (valid l h)

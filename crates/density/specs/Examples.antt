@@ -1,7 +1,7 @@
 -- Document 01, "Lists with known plans": the starred lists, and the examples of rows 12 to 16. Document 02, a: thresholds.
 use mathlib.Core.Path.{_≡_}
 use mathlib.Core.List.{List, [], _∷_}
-use mathlib.Core.Option.{some}
+use mathlib.Core.Option.{none, some}
 use Prim.Native.Nat.{ℕ, _<_}
 use lib.ListN.{length, getD}
 use Rattle.sets.specs.Set.{setOf}
@@ -27,7 +27,10 @@ abbrev pub own : ℕ → ℕ → Site
 own a w = pair a a w
 
 abbrev pub example : List Site → List ℕ → List ℕ → List ℕ → List ℕ → Example
-example l g w q s = record { list = record { sites = l }; groups = g; litres = w; sizes = q; shares = s }
+example l g w q s = record { list = record { sites = l; roll = none }; groups = g; litres = w; sizes = q; shares = s }
+
+abbrev pub rolled : List Site → List ℕ → List ℕ → List ℕ → List ℕ → List ℕ → Example
+rolled l r g w q s = record { list = record { sites = l; roll = some r }; groups = g; litres = w; sizes = q; shares = s }
 
 abbrev pub noSites : Example
 noSites = example [] [] [] [] []
@@ -57,6 +60,17 @@ nineSites =
     (5 ∷ 1 ∷ [])
     []
 
+-- Not in the papers, document 02, g: crews. (0,1) of 12 with three crews and one; the same with a crew each; own 0 of 4 with two crews, where depot 2 has one and no
+-- site; (0,1) of 12 and own 2 of 5 with nine, nine and one: one crew each would put {0,1} first; own 0 of 4 and own 1 of 8 with one and two: one group.
+unfoldable pub withCrews : List Example
+withCrews =
+    rolled (pair 0 1 12 ∷ []) (3 ∷ 1 ∷ []) (3 ∷ []) (12 ∷ []) (4 ∷ []) (36 ∷ [])
+    ∷ rolled (pair 0 1 12 ∷ []) (1 ∷ 1 ∷ []) (3 ∷ []) (12 ∷ []) (2 ∷ []) (12 ∷ [])
+    ∷ rolled (own 0 4 ∷ []) (2 ∷ 0 ∷ 1 ∷ []) (1 ∷ []) (4 ∷ []) (2 ∷ []) (8 ∷ [])
+    ∷ rolled (pair 0 1 12 ∷ own 2 5 ∷ []) (9 ∷ 9 ∷ 1 ∷ []) (4 ∷ 3 ∷ []) (5 ∷ 12 ∷ []) (1 ∷ 18 ∷ []) (108 ∷ 5 ∷ [])
+    ∷ rolled (own 0 4 ∷ own 1 8 ∷ []) (1 ∷ 2 ∷ []) (3 ∷ []) (12 ∷ []) (3 ∷ []) (12 ∷ 24 ∷ [])
+    ∷ []
+
 -- Document 02, a: groups of own sites of 4 and of 9 ({0} is 1, {1} 2), a threshold, and the sets found by reading up to the first group below it and by looking
 -- at every group. {1}, {0} fall; {0}, {1} do not, so that the two sets can differ; {0,1} has W/q 13/2 and reaches 6, not 7.
 pub record Reading : Type 0 where
@@ -69,7 +83,7 @@ abbrev pub reading : List ℕ → ℕ → ℕ → ℕ → Reading
 reading g t r e = record { groups = g; threshold = t; read = r; every = e }
 
 abbrev pub ownSites : Listing
-ownSites = record { sites = own 0 4 ∷ own 1 9 ∷ [] }
+ownSites = record { sites = own 0 4 ∷ own 1 9 ∷ []; roll = none }
 
 unfoldable pub readings : List Reading
 readings =
@@ -109,7 +123,7 @@ pub record Refused : Type 0 where
   pub number : ℕ
 
 abbrev pub refusal : List Site → List ℕ → List ℕ → ℕ → Refused
-refusal l g s r = record { list = record { sites = l }; groups = g; shares = s; number = r }
+refusal l g s r = record { list = record { sites = l; roll = none }; groups = g; shares = s; number = r }
 
 -- the paper's examples of rows 12 to 16, then others: an empty group; 12 before 13; own site not whole; a first and a second depot in
 -- an earlier group with a share; 14 before 15; 15 before 16

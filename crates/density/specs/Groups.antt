@@ -12,8 +12,8 @@ pub record Candidate (N : Network) (G X : Depots) : Type 0 where
   pub listed : X ⊆ N .listed
   pub free : Apart X G
 
--- "the most litres per depot. Of several such sets it is the largest": X has more litres per depot than Y or, where both have as many, is larger.
--- Litres per depot are compared by cross-multiplying.
+-- "the most litres per depot. Of several such sets it is the largest"; document 02, g: "The size of a set becomes its crews added up, everywhere: q, litres per crew". X has more
+-- litres per crew than Y or, where both have as many, is larger. Litres per crew are compared by cross-multiplying.
 unfoldable pub exceeds : Network → Depots → Depots → Depots → Bool
 exceeds N G X Y =
     ltb (litres N Y G * size N X) (litres N X G * size N Y)
@@ -24,7 +24,7 @@ pub record Next (N : Network) (G X : Depots) : Type 0 where
   pub candidate : Candidate N G X
   pub most : (Y : Depots) → Candidate N G Y → T (exceeds N G Y X) → ⊥
 
--- "Of several such sets it is the largest": X is such a set, a candidate than which none has more litres per depot.
+-- "Of several such sets it is the largest": X is such a set, a candidate than which none has more litres per crew.
 pub record Densest (N : Network) (G X : Depots) : Type 0 where
   pub candidate : Candidate N G X
   pub no-denser : (Y : Depots) → Candidate N G Y → litres N Y G * size N X ≤ litres N X G * size N Y

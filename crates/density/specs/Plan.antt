@@ -60,7 +60,7 @@ pub record Rules (N : Network) (gs ss : List ℕ) (i : ℕ) : Type 0 where
 unfoldable pub shareOf : Network → List ℕ → List ℕ → ℕ → ℕ → ℕ
 shareOf N gs ss d i = when (eqb (N .site i .first) d) (firstShare ss i) + when (eqb (N .site i .second) d) (secondShare N gs ss i)
 
--- "the shares it has from sites carried by its own group", and what they are to add up to: W, for each of its crews (`Network`)
+-- "the shares it has from sites carried by its own group", and what they are to add up to: "its crews times W" (document 02, g)
 unfoldable pub load : Network → List ℕ → List ℕ → ℕ → ℕ
 load N gs ss d = sum (λ i. when (eqb (carrier gs (N .site i)) (place gs d)) (shareOf N gs ss d i)) (N .count)
 

@@ -42,7 +42,7 @@ sharesBroken N gs ss = any (shareBroken N gs ss) (N .count)
 unfoldable pub scaledLoad : Network → List ℕ → List ℕ → ℕ → ℕ
 scaledLoad N gs ss d = sum (shareOf N gs ss d) (N .count)
 
--- "a depot's scaled load not W"
+-- "a depot's scaled load not W"; document 02, g: "a depot's scaled load is its crews times W"
 unfoldable pub loadsUneven : Network → List ℕ → List ℕ → Bool
 loadsUneven N gs ss = any (λ d. N .listed d && not (eqb (scaledLoad N gs ss d) (target N gs d))) 64
 

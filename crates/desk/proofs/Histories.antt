@@ -2,7 +2,7 @@
 -- function is for (Contracts); so any calls of them, from what `sulgheti_fresh` or `sulgheti_fresh2` writes where it answers 0 and a table of any bytes, are a history of document 01, through the step to edition 2 where they take it, and each
 -- code, figure and buffer that they give is that of the history's reply. What is written out of a list, and loaded, is the same list. The laws are over the edition. Assumes nothing.
 use Prim.Native.Nat.{ℕ}
-use mathlib.Core.Bool.{Bool, true, false, cond, _&&_}
+use mathlib.Core.Bool.{Bool, true, false, cond, _&&_, false≢true}
 use mathlib.Core.List.{List, [], _∷_}
 use mathlib.Core.Option.{Option, none, some}
 use mathlib.Core.Path.{_≡_, refl, sym, ap, ap₂, _∙_, subst}
@@ -14,6 +14,7 @@ use lib.IntN.{ℤ, pos}
 use lib.ListN.{length, take}
 use Rattle.records.specs.declared.Edition.{Edition}
 use Rattle.records.specs.Bytes.{Bytes}
+use Rattle.records.specs.Values.{rollIn}
 use Rattle.records.specs.Outcome.{passed}
 use Rattle.records.specs.Format.{edition1, edition2, readList}
 use Rattle.records.specs.Write.{Marked}
@@ -34,7 +35,7 @@ use Rattle.layout.proofs.Reading.{length-sites}
 use Rattle.lent.specs.Lent.{stateIn, isOf, call, Freshened}
 use Rattle.store_migrate_bytes.specs.Migrate.{into, migrates, Migrated}
 use Rattle.lent.proofs.Contracts.{laid-reply, fresh-sized, bytes-list}
-use Rattle.lent.proofs.Served.{litres-fit}
+use Rattle.lent.proofs.Served.{litres-fit, unrolled}
 use Rattle.store_converted.specs.Converted.{Converted}
 use Rattle.store_converted.proofs.Converted.{written-over}
 use Rattle.store_migrate_bytes.proofs.Migrated.{store-places}
@@ -49,7 +50,7 @@ use Rattle.desk.specs.Exports.{Given, coded, figures, differs, written, 
 told-edition : {e : Edition} (s : List ℕ) → Offered e → isOf e s ≡ true → editionIn s ≡ e
 told-edition s (inl k) long =
     let h : length s ≡ 2584 = eqb-true (length s) 2584 (subst (λ (d : Edition). isOf d s ≡ true) k long) in
-    ap (λ (b : Bool). cond b edition2 edition1) (ne-eqb (length s) 4632 (λ j. omega (arith, h, j))) ∙ sym k
+    ap (λ (b : Bool). cond b edition2 edition1) (ne-eqb (length s) 4704 (λ j. omega (arith, h, j))) ∙ sym k
 told-edition s (inr k) long = ap (λ (b : Bool). cond b edition2 edition1) (subst (λ (d : Edition). isOf d s ≡ true) k long) ∙ sym k
 
 -- and so every function serves it by that edition
@@ -67,7 +68,7 @@ serves s k ListWritten = k
 
 -- what keeps its length keeps its edition
 same-edition : (s s' : List ℕ) → length s' ≡ length s → editionIn s' ≡ editionIn s
-same-edition s s' h = ap (λ (n : ℕ). cond (eqb n (storeSize 8)) edition2 edition1) h
+same-edition s s' h = ap (λ (n : ℕ). cond (eqb n (storeSize 8 true)) edition2 edition1) h
 
 marked : {e : Edition} → Offered e → Marked e
 marked (inl k) = subst Marked (sym k) marked1
@@ -80,6 +81,14 @@ offered s = by (isOf edition2 s)
     by : (b : Bool) → Offered (cond b edition2 edition1)
     by true = inr refl
     by false = inl refl
+
+-- a store that is told as of an edition with rolls has its length
+rolls-sized : (s : List ℕ) → editionIn s .roll ≡ true → isOf (editionIn s) s ≡ true
+rolls-sized s = by (isOf edition2 s) refl
+  where
+    by : (b : Bool) → isOf edition2 s ≡ b → cond b edition2 edition1 .roll ≡ true → isOf (cond b edition2 edition1) s ≡ true
+    by true long h = long
+    by false long h = absurd (false≢true h)
 
 -- ---- one call
 
@@ -106,15 +115,15 @@ module _ (e : Edition) (s t s' t' : List ℕ) (c : Call) where
     is-step m = ap₂ (λ (z : State) (r : Reply). record { after = z; reply = r }) (m .reads long) (laid-reply e s t (step (stateIn e s t) c))
 
     stays-sized : Moved e s t c s' t' → isOf e s' ≡ true
-    stays-sized m = ap (λ (n : ℕ). eqb n (storeSize (e .share))) (m .long) ∙ long
+    stays-sized m = ap (λ (n : ℕ). eqb n (storeSize (e .share) (e .roll))) (m .long) ∙ long
 
 -- ---- a store of the other edition
 
 -- bytes are a store of one edition only
 pub one-edition : (s : List ℕ) → (isOf edition1 s ≡ true → isOf edition2 s ≡ false) × (isOf edition2 s ≡ true → isOf edition1 s ≡ false)
 one-edition s = (
-  (λ h. let k = eqb-true (length s) 2584 h in ne-eqb (length s) 4632 (λ j. omega (arith, k, j))),
-  (λ h. let k = eqb-true (length s) 4632 h in ne-eqb (length s) 2584 (λ j. omega (arith, k, j))),
+  (λ h. let k = eqb-true (length s) 2584 h in ne-eqb (length s) 4704 (λ j. omega (arith, k, j))),
+  (λ h. let k = eqb-true (length s) 4704 h in ne-eqb (length s) 2584 (λ j. omega (arith, k, j))),
 )
 
 -- a function for one edition answers no row at a store of the other, and leaves it and its table as they were
@@ -361,7 +370,7 @@ module _ (s t : List ℕ) (trip : ListRoundTrip (stateIn (editionIn s) s t)) whe
 
 -- Document 02, b, at any store and any table of bytes.
 pub exports-list : (s t : List ℕ) → Bytes t → ListGiven s t
-exports-list s t b = list-given s t (bytes-list (editionIn s) (marked (offered s)) s t b)
+exports-list s t b = list-given s t (bytes-list (editionIn s) (marked (offered s)) s t (rolls-sized s) b)
 
 -- ---- what is given after the step to edition 2
 
@@ -388,7 +397,7 @@ module _ {s t s₂ s₂' t₂' : List ℕ} (t₂ : List ℕ) (m : MigrateCode s 
   as-before c f =
       ap (λ (r : Reply). r .answer)
       (laid-reply edition1 s t (step (stateIn edition1 s t) c)
-      ∙ sym (same-through (stateIn edition1 s t) not-corrupt (each-of-512 (stateIn edition1 s t) not-corrupt (store-places (edition1 .share) s .1)) (sitesIn (edition2 .litres) t₂)
+      ∙ sym (same-through (stateIn edition1 s t) not-corrupt (each-of-512 (stateIn edition1 s t) not-corrupt (store-places (edition1 .share) (edition1 .roll) s .1)) (λ h. ap rollIn (unrolled edition1 s h)) (sitesIn (edition2 .litres) t₂)
       (unbuffered (migrates s t t₂ .reply .answer)) (stateIn edition2 s₂' t₂') (over-event m) c f)
       ∙ sym (laid-reply edition2 s₂' t₂' (step (stateIn edition2 s₂' t₂') c)))
 

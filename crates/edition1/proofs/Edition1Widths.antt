@@ -1,7 +1,8 @@
 -- The widths of edition 1: shares fit by their type, and a decision on figures of these widths is one of edition 1. Assumes nothing.
-use mathlib.Core.Path.{_≡_, sym, ap, ap₂, subst, _∙_}
+use mathlib.Core.Path.{_≡_, refl, sym, ap, ap₂, subst, _∙_}
 use mathlib.Core.Logic.{⊎-elim}
 use mathlib.Core.List.{List, [], _∷_, map}
+use mathlib.Core.Option.{none}
 use Prim.Native.Nat.{ℕ, zero, suc, _+_, _<_, _≤_, _^_}
 use native.Mathlib.Omega.{arith}
 use lib.Dec.{ltb, ltb→lt, nltb→le, not-T, lit<}
@@ -17,6 +18,7 @@ use Rattle.density.specs.declared.Site.{Site}
 use Rattle.density.specs.Network.{noSite}
 use Rattle.records.specs.declared.Edition.{Edition}
 use Rattle.records.specs.Bytes.{Bytes}
+use Rattle.records.specs.Values.{rollArray}
 use Rattle.records.specs.Format.{edition1}
 use Rattle.table.specs.declared.Site1.{Site1}
 use Rattle.table.specs.Widths.{widened, LitresFit}
@@ -82,7 +84,7 @@ module _ (store : Store1) (sites : List Site1) (places : ℕ) (request : Request
       → LitresFit (map widened sites)
       → ((i : ℕ) → getD (store .shares) i 0 < 2 ^ 32)
       → Named (2 ^ 16) (requestOf1 request)
-      → (((i : ℕ) → getD (d .store .shares) i 0 < 2 ^ 32) → storeOf1 held ≡ d .store)
+      → (((i : ℕ) → getD (d .store .shares) i 0 < 2 ^ 32) → d .store .roll ≡ rollArray none → storeOf1 held ≡ d .store)
       → (LitresFit (take (d .n) (d .sites)) → map widened (take (d .n) l) ≡ take (d .n) (d .sites))
       → Served1 store sites places request input buffer (record { answer = d .answer; store = held; sites = l; n = d .n }) last
   serves1 d held l s bytes litres shares named narrows fronts =
@@ -94,10 +96,10 @@ module _ (store : Store1) (sites : List Site1) (places : ℕ) (request : Request
             let k′ : places ≡ length wide = k ∙ sym (length-map table widened) in
             let e′ : take places (map widened sites) ≡ take 512 wide = sym (map-take widened places sites) ∙ ap (map widened) e ∙ map-take widened 512 table in
             let x = s .steps wide k′ e′ in
-            let fits : Fits 512 (view1 store table) = record { litres = table-fits places (map widened sites) wide k′ e′ litres; shares = shares } in
+            let fits : Fits 512 (view1 store table) = record { litres = table-fits places (map widened sites) wide k′ e′ litres; shares = shares; roll = λ k. refl } in
             let after = subst (λ (r : Done). Fits 512 (r .after)) (sym x) (step-fits 512 (view1 store table) fits (callOf1 request input buffer) bytes named) in
             ap₂ (λ (a : Store) (t : List Site). done1 a t d last)
-            (narrows (after .shares)) (widened-over (d .n) l (d .sites) table (fronts (stored-fits 512 (d .n) (d .sites) wide (s .few) (after .litres))))
+            (narrows (after .shares) (after .roll refl)) (widened-over (d .n) l (d .sites) table (fronts (stored-fits 512 (d .n) (d .sites) wide (s .few) (after .litres))))
             ∙ x;
       }
 
@@ -108,7 +110,7 @@ module _ (store : Store1) (sites : List Site1) (places : ℕ) (request : Request
       → (a ≡ map widened sites) × LitresFit a
       → (q ≡ requestOf1 request) × Named (2 ^ 16) q
       → Bytes input × Served e w a places q input buffer d last
-      → (((i : ℕ) → getD (d .store .shares) i 0 < 2 ^ 32) → storeOf1 held ≡ d .store)
+      → (((i : ℕ) → getD (d .store .shares) i 0 < 2 ^ 32) → d .store .roll ≡ rollArray none → storeOf1 held ≡ d .store)
       → (LitresFit (take (d .n) (d .sites)) → map widened (take (d .n) l) ≡ take (d .n) (d .sites))
       → Typed1 request input × Served1 store sites places request input buffer (record { answer = d .answer; store = held; sites = l; n = d .n }) last
   widened-serves {d = d} {held} {l} e w a (r, n) (bytes, s) narrows fronts =

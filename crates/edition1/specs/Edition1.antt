@@ -1,10 +1,12 @@
--- Edition 1: what its store, table and requests are in figures. Only fields are renamed.
+-- Edition 1: what its store, table and requests are in figures. Only fields are renamed; and there is no roll.
 use mathlib.Core.Path.{_≡_}
 use mathlib.Core.Bool.{false}
 use mathlib.Core.List.{List, map}
+use mathlib.Core.Option.{none}
 use Prim.Native.Nat.{ℕ, _≤_}
 use lib.ListN.{length, take, replicate}
 use Rattle.records.specs.Format.{edition1}
+use Rattle.records.specs.Values.{rollArray}
 use Rattle.table.specs.declared.Site1.{Site1}
 use Rattle.table.specs.Table.{overlay}
 use Rattle.table.specs.Widths.{widened}
@@ -22,7 +24,7 @@ use Rattle.store.specs.State.{Done, step}
 use Rattle.serve.specs.Entries.{Typed, Entry}
 
 abbrev pub storeOf1 : Store1 → Store
-storeOf1 s = record { count = s .count; held = s .held; grouped = s .grouped; groups = s .groups; shares = s .shares }
+storeOf1 s = record { count = s .count; held = s .held; grouped = s .grouped; groups = s .groups; shares = s .shares; roll = rollArray none }
 
 abbrev pub view1 : Store1 → List Site1 → State
 view1 s table = record { edition = edition1; store = storeOf1 s; table = map widened table }

@@ -1,6 +1,7 @@
 // The desk by the widths of edition 1 of document 01.
 use held_state::Store;
 use records::edition1;
+use records::no_roll;
 use serve::serve;
 use store::Answer;
 use store::Request;
@@ -8,8 +9,10 @@ use table::Site1;
 use table::values::narrow_first;
 use table::widen_all;
 ghost use mathlib.Core.Path.{_≡_};
+ghost use mathlib.Core.Option.{none};
 ghost use Prim.Native.Nat.{ℕ, _<_, _^_};
 ghost use lib.ListN.{getD};
+ghost use Rattle.records.specs.Values.{rollArray};
 ghost use Rattle.store.specs.Widths.{Named};
 ghost use Rattle.edition1.specs.Edition1.{storeOf1, requestOf1, fresh1, Typed1, Served1};
 
@@ -88,25 +91,27 @@ fn narrow_shares(shares: [u64; 512]) -> [u32; 512]
     a
 }
 
-// The store by the widths of the definition; its shares have 32 bits.
+// The store by the widths of the definition: its shares have 32 bits, and it has no roll.
 pub fn widen_store(s: Store1) -> Store
     ensures { λ r. ⌜ (r ≡ storeOf1 s) × ((i : ℕ) → getD (r .shares) i 0 < 2 ^ 32) ⌝ }
 {
     let groups = s.groups;
     let narrow = s.shares;
     let shares = widen_shares(narrow);
+    let roll = no_roll();
     Store {
         count: s.count,
         held: s.held,
         grouped: s.grouped,
         groups,
         shares,
+        roll,
     }
 }
 
-// The store by the widths of edition 1, if its shares fit.
+// The store by the widths of edition 1, if its shares fit and it has no roll.
 pub fn narrow_store(s: Store) -> Store1
-    ensures { λ r. ⌜ (((i : ℕ) → getD (s .shares) i 0 < 2 ^ 32) → storeOf1 r ≡ s) ⌝ }
+    ensures { λ r. ⌜ (((i : ℕ) → getD (s .shares) i 0 < 2 ^ 32) → s .roll ≡ rollArray none → storeOf1 r ≡ s) ⌝ }
 {
     let groups = s.groups;
     let wide = s.shares;

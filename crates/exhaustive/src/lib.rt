@@ -1,4 +1,4 @@
-// Groups and plans by a plain count over all sets of depots, from document 01, "Depots, sites, groups". It shares nothing with the engine but the
+// Groups and plans by a plain count over all sets of depots, from document 01, "Depots, sites, groups", and document 02, g. It shares nothing with the engine but the
 // types of a list and of a plan. For lists of at most 16 sites whose depots are below 12; `is_small` says whether a list is one.
 use density::Site;
 use records::ListArray;
@@ -84,11 +84,25 @@ fn listed(sites: [Entry; 16]) -> u64 {
     set
 }
 
-// How many depots a set has, counted one by one.
-fn size(set: u64) -> u64 {
+// The crews of depots 0 to 11. "Without a roll a listed depot has one crew."
+fn crews(list: ListArray) -> [u64; 12] {
+    let mut out = [1u64; 12];
+    let roll = list.roll;
+    if roll.there {
+        for d in 0..12 {
+            out[d] = roll.crews[d] as u64;
+        }
+    }
+    out
+}
+
+// "The size of a set becomes its crews added up": one by one, depot for depot.
+fn size(crews: [u64; 12], set: u64) -> u64 {
     let mut n: u64 = 0;
-    for d in 0..12u8 {
-        n = sum(n, (set >> d) & 1);
+    for d in 0..12 {
+        if set & single(d as u8) != 0 {
+            n = sum(n, crews[d]);
+        }
     }
     n
 }
@@ -114,7 +128,7 @@ fn litres_of(sites: [Entry; 16], set: u64, grouped: u64) -> u64 {
     w
 }
 
-// Are w litres for n depots more litres per depot than v for m, or as many for more depots?
+// Are w litres for n crews more litres per crew than v for m, or as many for more crews?
 fn exceeds(w: u64, n: u64, v: u64, m: u64) -> bool {
     let a = product(w, m);
     let b = product(v, n);
@@ -124,10 +138,10 @@ fn exceeds(w: u64, n: u64, v: u64, m: u64) -> bool {
     b < a
 }
 
-// "The next group is, among the non-empty sets of listed depots not yet grouped, the one with the most litres per depot. Of several such sets it is the
-// largest." Those sets are the numbers from 1 to the set `free` of such depots that have no depot outside it. It starts from no litres for no depots,
-// which any of them exceeds or equals with more depots.
-fn next_group(sites: [Entry; 16], free: u64, grouped: u64) -> u64 {
+// "The next group is, among the non-empty sets of listed depots not yet grouped, the one with the most litres per depot", by g) per crew. "Of several such sets it is the
+// largest." Those sets are the numbers from 1 to the set `free` of such depots that have no depot outside it. It starts from no litres for no crews,
+// which any of them exceeds or equals with more crews.
+fn next_group(sites: [Entry; 16], crews: [u64; 12], free: u64, grouped: u64) -> u64 {
     let mut best: u64 = 0;
     let mut most: u64 = 0;
     let mut many: u64 = 0;
@@ -138,7 +152,7 @@ fn next_group(sites: [Entry; 16], free: u64, grouped: u64) -> u64 {
     while x <= free {
         if x & !free == 0 {
             let w = litres_of(sites, x, grouped);
-            let n = size(x);
+            let n = size(crews, x);
             if exceeds(w, n, most, many) {
                 best = x;
                 most = w;
@@ -151,14 +165,14 @@ fn next_group(sites: [Entry; 16], free: u64, grouped: u64) -> u64 {
 }
 
 // "Groups follow until every listed depot is in one."
-fn all_groups(sites: [Entry; 16]) -> Found {
+fn all_groups(sites: [Entry; 16], crews: [u64; 12]) -> Found {
     let mut sets = [0u64; 64];
     let mut count: usize = 0;
     let mut free = listed(sites);
     let mut grouped: u64 = 0;
     for k in 0..16 {
         if free != 0 {
-            let set = next_group(sites, free, grouped);
+            let set = next_group(sites, crews, free, grouped);
             sets[k] = set;
             grouped = grouped | set;
             free = free & !set;
@@ -186,9 +200,9 @@ fn carrier(sets: [u64; 64], site: Entry) -> usize {
 }
 
 // "A site of w litres is w × q", q being the size of the group that carries it.
-fn carried_part(sets: [u64; 64], site: Entry, share: u64) -> Part {
+fn carried_part(crews: [u64; 12], sets: [u64; 64], site: Entry, share: u64) -> Part {
     let k = carrier(sets, site);
-    let q = if k < 16 { size(sets[k]) } else { 0 };
+    let q = if k < 16 { size(crews, sets[k]) } else { 0 };
     Part {
         site,
         carrier: k,
@@ -198,7 +212,13 @@ fn carried_part(sets: [u64; 64], site: Entry, share: u64) -> Part {
 }
 
 // The parts of so many sites, and 0 beyond the last.
-fn parts(sites: [Entry; 16], count: usize, sets: [u64; 64], plan: PlanArray) -> [Part; 16] {
+fn parts(
+    sites: [Entry; 16],
+    crews: [u64; 12],
+    count: usize,
+    sets: [u64; 64],
+    plan: PlanArray,
+) -> [Part; 16] {
     let none = Part {
         site: no_site(),
         carrier: 16,
@@ -208,7 +228,7 @@ fn parts(sites: [Entry; 16], count: usize, sets: [u64; 64], plan: PlanArray) -> 
     let mut out = [none; 16];
     for i in 0..16 {
         if i < count {
-            out[i] = carried_part(sets, sites[i], plan.shares[i]);
+            out[i] = carried_part(crews, sets, sites[i], plan.shares[i]);
         }
     }
     out
@@ -282,13 +302,14 @@ fn carried(parts: [Part; 16], k: usize) -> u64 {
     w
 }
 
-// "A plan is level if for each depot the shares it has from sites carried by its own group add up to W." A depot in no group is not listed.
-fn is_level(parts: [Part; 16], sets: [u64; 64]) -> bool {
-    for d in 0..12u8 {
-        let depot = single(d);
+// "A plan is level if for each depot the shares it has from sites carried by its own group add up to W", and by g) to
+// "its crews times W". A depot in no group is not listed.
+fn is_level(parts: [Part; 16], crews: [u64; 12], sets: [u64; 64]) -> bool {
+    for d in 0..12 {
+        let depot = single(d as u8);
         let k = place(sets, depot);
         if k < 16 {
-            if load(parts, k, depot) != carried(parts, k) {
+            if load(parts, k, depot) != product(carried(parts, k), crews[d]) {
                 return false;
             }
         }
@@ -320,7 +341,7 @@ pub fn groups(list: ListArray) -> PlanArray {
         sets: [0; 64],
     };
     if is_small(list) {
-        found = all_groups(read(list));
+        found = all_groups(read(list), crews(list));
     }
     let groups = found.sets;
     PlanArray {
@@ -350,14 +371,15 @@ pub fn is_true(list: ListArray, plan: PlanArray) -> bool {
         return false;
     }
     let sites = read(list);
-    let found = all_groups(sites);
+    let each = crews(list);
+    let found = all_groups(sites, each);
     if !same_groups(plan, found) {
         return false;
     }
     let sets = found.sets;
-    let shared = parts(sites, list.count, sets, plan);
+    let shared = parts(sites, each, list.count, sets, plan);
     if all_keep(shared, sets) {
-        return is_level(shared, sets);
+        return is_level(shared, each, sets);
     }
     false
 }

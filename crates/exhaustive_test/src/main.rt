@@ -1,8 +1,9 @@
-// Document 01's lists with known plans, counted over all sets.
+// Document 01's lists with known plans, and lists with crews, counted over all sets.
 use exhaustive::has_groups;
 use exhaustive::is_true;
 use networks::no_groups;
 use networks::no_sites;
+use networks::with_crews;
 use networks::with_group;
 use networks::with_share;
 use networks::with_site;
@@ -86,6 +87,40 @@ fn starred_others(start: Tally) -> Tally {
     known(t, triangle(), shares(one_group(7), 3, 3))
 }
 
+// The list with crews at depots 0, 1 and 2, and none at the others.
+fn crewed(list: ListArray, a: u8, b: u8, c: u8) -> ListArray {
+    let mut crews = [0u8; 64];
+    crews[0] = a;
+    crews[1] = b;
+    crews[2] = c;
+    with_crews(list, crews)
+}
+
+// Lists with crews; a crewed depot that no site names is in no group.
+fn with_rolls(start: Tally) -> Tally {
+    let mut t = start;
+    let one = one_site(0, 1, 12);
+    t = known(t, crewed(one, 3, 1, 0), with_share(one_group(3), 0, 36));
+    t = known(t, crewed(one, 1, 1, 9), with_share(one_group(3), 0, 12));
+    t = known(
+        t,
+        crewed(one_site(0, 0, 4), 2, 0, 1),
+        with_share(one_group(1), 0, 8),
+    );
+    t = known(
+        t,
+        crewed(two_sites(0, 1, 12, 2, 2, 5), 9, 9, 1),
+        shares(two_groups(4, 3), 108, 5),
+    );
+    t = known(
+        t,
+        crewed(two_sites(0, 0, 4, 1, 1, 8), 1, 2, 0),
+        shares(one_group(3), 12, 24),
+    );
+    t = untrue(t, crewed(one, 3, 1, 0), with_share(one_group(3), 0, 24));
+    untrue(t, crewed(one, 1, 1, 9), with_share(one_group(7), 0, 12))
+}
+
 // False plans: the examples of rows 12 to 16, and others.
 fn false_plans(start: Tally) -> Tally {
     let mut t = start;
@@ -123,7 +158,7 @@ fn false_others(start: Tally) -> Tally {
 
 fn main() {
     let mut t = tally::nothing();
-    t = starred_others(starred(t));
+    t = with_rolls(starred_others(starred(t)));
     t = tallied(t, has_groups(nine_sites(), two_groups(31, 32)));
     t = false_others(false_plans(t));
     tally::print(b"known plans", t);

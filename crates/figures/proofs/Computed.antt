@@ -5,15 +5,15 @@ use Prim.Native.Nat.{ℕ, _≤_}
 use native.Mathlib.Omega.{arith}
 use lib.Dec.{T, lit≤}
 use lib.ListN.{length}
-use Rattle.sets.specs.Sum.{all}
-use Rattle.density.specs.Network.{Listing, network, depotsInRange}
+use Rattle.sets.specs.Sum.{all, any}
+use Rattle.density.specs.Network.{Listing, network, depotsInRange, crewsAbove, sitesUncrewed, inRange}
 use Rattle.density.specs.Plan.{place, groupSize}
 use Rattle.density.proofs.Lists.{valid}
 use Rattle.density.proofs.Plans.{complete}
 use Rattle.records.specs.declared.ListArray.{ListArray}
 use Rattle.records.specs.declared.PlanArray.{PlanArray}
 use Rattle.records.specs.declared.ListRead.{ListRead}
-use Rattle.records.specs.Values.{listing}
+use Rattle.records.specs.Values.{rollIn, listing}
 use Rattle.records.specs.Outcome.{Outcome, refused, passed}
 use Rattle.records.specs.declared.Edition.{Edition}
 use Rattle.records.specs.Format.{readList}
@@ -27,15 +27,15 @@ use Rattle.figures.specs.declared.Figures.{Figures}
 use Rattle.figures.specs.Computed.{Computed, Of}
 
 -- a list that is read, also an empty one for a refused list, has at most 512 sites, and its depots are numbers from 0 to 63
-pub read-in-range : (e : Edition) (s : List ℕ) (x : ListRead) → x ≡ listRead (readList e 512 s) → (x .list .count ≤ 512) × T (depotsInRange (listing (x .list)))
-unfolding depotsInRange all
+pub read-in-range : (e : Edition) (s : List ℕ) (x : ListRead) → x ≡ listRead (readList e 512 s) → (x .list .count ≤ 512) × T (inRange (listing (x .list)))
+unfolding inRange depotsInRange crewsAbove sitesUncrewed all any
 read-in-range e s x is = by-outcome (readList e 512 s) refl is
   where
-    by-outcome : (o : Outcome Listing) → readList e 512 s ≡ o → x ≡ listRead o → (x .list .count ≤ 512) × T (depotsInRange (listing (x .list)))
+    by-outcome : (o : Outcome Listing) → readList e 512 s ≡ o → x ≡ listRead o → (x .list .count ≤ 512) × T (inRange (listing (x .list)))
     by-outcome (refused n) h k = rw k (lit≤ tt, tt)
     by-outcome (passed l) h k = in-range e s x (length (l .sites)) (rw h k) (rw k)
 
-module _ (list : ListArray) (plan : PlanArray) (few : list .count ≤ 512) (range : T (depotsInRange (listing list))) (p : Planned list plan)
+module _ (list : ListArray) (plan : PlanArray) (few : list .count ≤ 512) (range : T (inRange (listing list))) (p : Planned list plan)
     (wide : length (list .sites) ≡ 512) (deep : length (plan .groups) ≡ 64) where
   ready : Ready list plan
   ready =
@@ -46,7 +46,7 @@ module _ (list : ListArray) (plan : PlanArray) (few : list .count ≤ 512) (rang
       }
 
   module _ (places sizes : List ℕ) (lp : length places ≡ 64) (lq : length sizes ≡ 64) (h : Holds places (place (groupsIn list plan)) 64)
-      (k : (l : Listing) → Holds sizes (groupSize (network l) (groupsIn list plan)) (length (groupsIn list plan))) where
+      (k : (l : Listing) → l .roll ≡ rollIn (list .roll) → Holds sizes (groupSize (network l) (groupsIn list plan)) (length (groupsIn list plan))) where
     both : Tables list plan places sizes
     both = tables list plan ready places sizes lp lq h k
 

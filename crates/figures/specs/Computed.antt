@@ -22,7 +22,7 @@ pub record Computed (x : Figures) : Type 0 where
   pub length-litres : length (x .litres) ≡ 64
   pub litres : Holds (x .litres) (groupLitres (net (x .list)) (groupsIn (x .list) (x .plan))) (x .plan .count)
 
--- what the bytes of a list of an edition give: the answer and the list are those of rows 1 to 6, and the figures are the list's
+-- what the bytes of a list of an edition give: the answer and the list are those of the rows of a list, and the figures are the list's
 pub record Of (e : Edition) (bytes : List ℕ) (r : Found) : Type 0 where
   pub read : _≡_ {A = ListRead} (record { answer = r .answer; list = r .figures .list }) (listRead (readList e 512 bytes))
   pub computed : Computed (r .figures)

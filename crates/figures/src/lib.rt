@@ -6,7 +6,7 @@ use records::Read;
 ghost use mathlib.Core.Path.{_≡_};
 ghost use Prim.Native.Nat.{_≤_};
 ghost use lib.Dec.{T};
-ghost use Rattle.density.specs.Network.{depotsInRange};
+ghost use Rattle.density.specs.Network.{inRange};
 ghost use Rattle.records.specs.Values.{listing};
 ghost use Rattle.figures.specs.Computed.{Computed, Of};
 
@@ -27,7 +27,7 @@ pub struct Found {
 
 // The figures of a list.
 fn of_list(list: ListArray) -> Figures
-    requires { ⌜ (list .count ≤ 512) × T (depotsInRange (listing list)) ⌝ }
+    requires { ⌜ (list .count ≤ 512) × T (inRange (listing list)) ⌝ }
     ensures { λ r. ⌜ (r .list ≡ list) × Computed r ⌝ }
 {
     let plan = maker::make_plan(list);
@@ -35,7 +35,8 @@ fn of_list(list: ListArray) -> Figures
     let sets = plan.groups;
     let groups = &sets[..n];
     let places = tables::places(groups);
-    let sizes = tables::sizes(groups);
+    let roll = list.roll;
+    let sizes = tables::sizes(roll, groups);
     let litres = tables::litres(list, &places);
     Figures {
         list,

@@ -17,7 +17,7 @@ use mir.ValLaws.{toZ-ofZ, toZ-pos}
 use Rattle.sets.specs.Set.{has, setOf}
 use Rattle.sets.proofs.Test.{T?, T-ext}
 use Rattle.sets.proofs.Member.{setOf-lt, has-setOf, member-lt}
-use Rattle.density.specs.Network.{depotsInRange}
+use Rattle.density.specs.Network.{inRange}
 use Rattle.density.specs.Plan.{place, groupSize, groupLitres}
 use Rattle.density.specs.Figures.{differenceOf}
 use Rattle.density.proofs.Lists.{valid}
@@ -30,7 +30,7 @@ use Rattle.tables.proofs.Shares.{place-lt, sizes-few}
 use Rattle.held_state.specs.Values.{heldLitres, heldSize}
 
 -- the set of the listed depots has them
-pub listed-has : (list : ListArray) → T (depotsInRange (listing list)) → (d : ℕ) → has (setOf (net list .listed) 64) d ≡ net list .listed d
+pub listed-has : (list : ListArray) → T (inRange (listing list)) → (d : ℕ) → has (setOf (net list .listed) 64) d ≡ net list .listed d
 listed-has list h d =
     ⊎-elim (λ l. has-setOf 64 (net list .listed) d (ltb→lt d 64 l))
     (λ n.

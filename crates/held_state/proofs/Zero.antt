@@ -12,11 +12,12 @@ use Rattle.sets.specs.Sum.{any}
 use Rattle.sets.proofs.Test.{passes, fails}
 use Rattle.sets.proofs.Sum.{any-from, any-cong}
 use Rattle.density.specs.declared.Site.{Site}
-use Rattle.density.specs.Network.{Listing, network, noSite, siteAt}
+use Rattle.density.specs.Network.{Listing, network, noSite, siteAt, crewsAbove, uncrewed, sitesUncrewed}
 use Rattle.density.specs.Rows.{Row, row, firstRow, planRows}
 use Rattle.records.specs.declared.ListArray.{ListArray}
 use Rattle.records.specs.declared.PlanArray.{PlanArray}
-use Rattle.records.specs.Values.{Plan, listing, planIn}
+use Rattle.records.specs.declared.RollArray.{RollArray}
+use Rattle.records.specs.Values.{Plan, rollIn, listing, planIn}
 use Rattle.tables.specs.declared.Verdict.the-variants.{Passes, Refused}
 use Rattle.tables.specs.Verdict.{verdict}
 use Rattle.tables.specs.Tables.{Counted, Formed, lentPlan}
@@ -24,7 +25,7 @@ use Rattle.tables.specs.declared.Form.{Form}
 use Rattle.held_state.specs.declared.Summary.{Summary}
 use Rattle.held_state.specs.Held.{State, listOf, planHeld, badSite, badPlan, corrupt}
 use Rattle.held_state.specs.Values.{Stands, BadKnown, Examined, refuses}
-use Rattle.held_state.proofs.Intact.{good-range, neither}
+use Rattle.held_state.proofs.Intact.{good-range, neither, sized}
 
 -- ---- a verdict on the form
 
@@ -60,20 +61,41 @@ near list k e =
     let n = neither (ltb 512 (list .count)) (ltb (k .places) (list .count)) (fails (far list k) e) in
     (nltb→le 512 (list .count) (not-T (ltb 512 (list .count)) (n .0)), nltb→le (k .places) (list .count) (not-T (ltb (k .places) (list .count)) (n .1)))
 
+-- a roll that row 22 refuses, and a site that row 23 refuses
+abbrev pub above : ListArray → Bool
+above list = crewsAbove (rollIn (list .roll))
+
+abbrev lacks : ListArray → ℕ → Bool
+lacks list i = uncrewed (rollIn (list .roll)) (getD (list .sites) i noSite)
+
+abbrev pub lacking : ListArray → Bool
+lacking list = any (lacks list) (list .count)
+
+-- rows 5, 6, 22 and 23 refuse nothing that is held
+abbrev pub Sound : ListArray → Summary → Type 0
+Sound list k = (k .bad ≡ false) × (above list ≡ false) × (lacking list ≡ false)
+
 -- what a plan's form is tried on
-pub counted : (list : ListArray) (k : Summary) → length (list .sites) ≡ 512 → BadKnown list k → far list k ≡ false → k .bad ≡ false
+pub counted : (list : ListArray) (k : Summary) → length (list .sites) ≡ 512 → BadKnown list k → far list k ≡ false → Sound list k
     → (plan : PlanArray) → plan .count ≤ 64 → Counted list plan
 counted list k wide marked e b plan l =
     let n = near list k e in
     let bad : ℕ → Bool = λ i. badSite (getD (list .sites) i noSite) in
+    let none-bad : any bad (list .count) ≡ false = sym (marked (n .0) (n .1)) ∙ b .0 in
     let long : length (take (list .count) (list .sites)) ≡ list .count = length-take-le (list .count) (list .sites) (omega (arith, n .0)) in
     record {
       sites = n .0;
       groups = l;
       range = good-range (listing list)
-          (λ i m t.
-          let here : i < list .count = omega arith in
-          fails (any bad (list .count)) (sym (marked (n .0) (n .1)) ∙ b) (any-from bad (list .count) i here (rw (getD-take (list .count) (list .sites) i noSite here) at t)));
+          (record {
+            sites = λ i m t.
+                let here : i < list .count = omega arith in
+                fails (any bad (list .count)) none-bad (any-from bad (list .count) i here (rw (getD-take (list .count) (list .sites) i noSite here) at t));
+            roll = b .1;
+            crewed = λ i m t.
+                let here : i < list .count = omega arith in
+                fails (lacking list) (b .2) (any-from (lacks list) (list .count) i here (rw (getD-take (list .count) (list .sites) i noSite here) at t));
+          });
     }
 
 module _ (s : State) (list : ListArray) (k : Summary) (gs ss : List ℕ) (t : Stands s list k gs ss) where
@@ -93,7 +115,8 @@ module _ (s : State) (list : ListArray) (k : Summary) (gs ss : List ℕ) (t : St
 
   -- the list held
   pub list-is : list .count ≤ 512 → list .count ≤ k .places → listing list ≡ listOf s
-  list-is few room = ap (λ (xs : List Site). record { sites = xs }) (t .sites few room ∙ ap (λ (n : ℕ). take n (s .table)) (t .count))
+  list-is few room =
+      ap₂ (λ (xs : List Site) (r : RollArray). record { sites = xs; roll = rollIn r }) (t .sites few room ∙ ap (λ (n : ℕ). take n (s .table)) (t .count)) (t .roll)
 
   module _ (marked : BadKnown list k) (e : far list k ≡ false) where
     few : list .count ≤ 512
@@ -108,23 +131,41 @@ module _ (s : State) (list : ListArray) (k : Summary) (gs ss : List ℕ) (t : St
         ∙ any-cong _ _ (list .count) (λ i l. ap badSite (getD-take (list .count) (list .sites) i noSite l))
         ∙ sym (marked few (near list k e .1))
 
-    -- the tests of the sites and of the plan
-    zero-rest : (b h m : Bool) → k .bad ≡ b → k .held ≡ h → ltb 64 (k .grouped) ≡ m → corrupt s ≡ (b || (h && (m || badPlan (listOf s) (planHeld s))))
+    above-is : crewsAbove (listOf s .roll) ≡ above list
+    above-is = ap (λ (r : RollArray). crewsAbove (rollIn r)) (sym (t .roll))
+
+    lacking-is : sitesUncrewed (listOf s) ≡ lacking list
+    unfolding sitesUncrewed
+    lacking-is =
+        let room : s .store .count ≤ length (s .table) = omega (arith, near list k e .1, t .count, t .places) in
+        ap (any (λ i. uncrewed (listOf s .roll) (siteAt (listOf s) i))) (sized s room)
+        ∙ ap₂ (λ (l : Listing) (n : ℕ). any (λ i. uncrewed (l .roll) (siteAt l i)) n) (sym same) (sym (t .count))
+        ∙ any-cong _ _ (list .count) (λ i l. ap (uncrewed (rollIn (list .roll))) (getD-take (list .count) (list .sites) i noSite l))
+
+    -- the tests of the sites, of the roll and of the plan
+    zero-rest : (b r c h m : Bool) → k .bad ≡ b → above list ≡ r → lacking list ≡ c → k .held ≡ h → ltb 64 (k .grouped) ≡ m
+        → corrupt s ≡ (b || r || c || (h && (m || badPlan (listOf s) (planHeld s))))
     unfolding corrupt
-    zero-rest b h m x y z = rw (far-is ∙ e, bad-is ∙ x, sym (t .held) ∙ y, ap (ltb 64) (sym (t .grouped)) ∙ z)
+    zero-rest b r c h m x v w y z = rw (far-is ∙ e, bad-is ∙ x, above-is ∙ v, lacking-is ∙ w, sym (t .held) ∙ y, ap (ltb 64) (sym (t .grouped)) ∙ z)
 
     zero-bad : k .bad ≡ true → true ≡ corrupt s
-    zero-bad b = sym (zero-rest true _ _ b refl refl)
+    zero-bad b = sym (zero-rest true _ _ _ _ b refl refl refl refl)
 
-    module _ (b : k .bad ≡ false) where
+    zero-above : k .bad ≡ false → above list ≡ true → true ≡ corrupt s
+    zero-above b r = sym (zero-rest false true _ _ _ b r refl refl refl)
+
+    zero-lacking : k .bad ≡ false → above list ≡ false → lacking list ≡ true → true ≡ corrupt s
+    zero-lacking b r c = sym (zero-rest false false true _ _ b r c refl refl)
+
+    module _ (b : Sound list k) where
       zero-none : k .held ≡ false → false ≡ corrupt s
-      zero-none h = sym (zero-rest false false _ b h refl)
+      zero-none h = sym (zero-rest false false false false _ (b .0) (b .1) (b .2) h refl)
 
       zero-many : k .held ≡ true → 64 < k .grouped → true ≡ corrupt s
-      zero-many h l = sym (zero-rest false true true b h (lt-ltb 64 (k .grouped) l))
+      zero-many h l = sym (zero-rest false false false true true (b .0) (b .1) (b .2) h (lt-ltb 64 (k .grouped) l))
 
       zero-plan : k .held ≡ true → k .grouped ≤ 64 → badPlan (listing list) (planIn (lentPlan (k .grouped) gs ss) (list .count)) ≡ corrupt s
-      zero-plan h l = ap₂ badPlan same (plan-is few l) ∙ sym (zero-rest false true false b h (le-ltb 64 (k .grouped) l))
+      zero-plan h l = ap₂ badPlan same (plan-is few l) ∙ sym (zero-rest false false false true false (b .0) (b .1) (b .2) h (le-ltb 64 (k .grouped) l))
 
 -- ---- what row 0 finds
 
@@ -145,7 +186,13 @@ module _ (list : ListArray) (k : Summary) (gs ss : List ℕ) (r : Form) (ws : Li
     pub examined-bad : k .bad ≡ true → (n : ℕ) → r .verdict ≡ Refused n → Examined list k plan r ws
     examined-bad b n v = refused n v (λ s t. zero-bad s list k gs ss t marked e b)
 
-    module _ (b : k .bad ≡ false) where
+    pub examined-above : k .bad ≡ false → above list ≡ true → (n : ℕ) → r .verdict ≡ Refused n → Examined list k plan r ws
+    examined-above b c n v = refused n v (λ s t. zero-above s list k gs ss t marked e b c)
+
+    pub examined-lacking : k .bad ≡ false → above list ≡ false → lacking list ≡ true → (n : ℕ) → r .verdict ≡ Refused n → Examined list k plan r ws
+    examined-lacking b c d n v = refused n v (λ s t. zero-lacking s list k gs ss t marked e b c d)
+
+    module _ (b : Sound list k) where
       pub examined-none : k .held ≡ false → r .verdict ≡ Passes → Examined list k plan r ws
       examined-none h v =
           record {

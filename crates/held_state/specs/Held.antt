@@ -6,11 +6,11 @@ use lib.Dec.{eqb, ltb}
 use lib.ListN.{length, take}
 use Rattle.sets.specs.Sum.{any}
 use Rattle.density.specs.declared.Site.{Site}
-use Rattle.density.specs.Network.{Listing, network, siteAt}
+use Rattle.density.specs.Network.{Listing, network, siteAt, crewsAbove, sitesUncrewed}
 use Rattle.density.specs.Plan.{place, groupLitres, groupSize}
 use Rattle.density.specs.Rows.{groupsMeet, groupsUnlisted, sharesBroken}
 use Rattle.records.specs.declared.Edition.{Edition}
-use Rattle.records.specs.Values.{Plan}
+use Rattle.records.specs.Values.{Plan, rollIn}
 use Rattle.held_state.specs.declared.Store.{Store}
 
 -- The desk (store) of an edition, and the table that it is lent.
@@ -19,9 +19,9 @@ pub record State : Type 0 where
   pub store : Store
   pub table : List Site
 
--- the list held, and the plan held
+-- the list held, whose sites are the first of the table (document 02, g: the desk "keeps the roll, or the lack of one"), and the plan held
 abbrev pub listOf : State → Listing
-listOf s = record { sites = take (s .store .count) (s .table) }
+listOf s = record { sites = take (s .store .count) (s .table); roll = rollIn (s .store .roll) }
 
 abbrev pub planHeld : State → Plan
 planHeld s =
@@ -30,7 +30,8 @@ planHeld s =
 abbrev pub on : Edition → Store → List Site → State
 on e store table = record { edition = e; store = store; table = table }
 
--- Row 0: "held site count above 512 or the table's places, a held site that rows 5 or 6 refuse, or a held plan that rows 8 or 12 to 14 refuse"
+-- Row 0: "held site count above 512 or the table's places, a held site that rows 5 or 6 refuse, or a held plan that rows 8 or 12 to 14 refuse".
+-- Document 02, g: "Row 0 also covers a held roll or site that rows 22 or 23 refuse."
 abbrev pub badSite : Site → Bool
 badSite x = ltb 63 (x .first) || ltb 63 (x .second) || eqb (x .litres) 0
 
@@ -42,6 +43,8 @@ corrupt s =
     ltb 512 (s .store .count)
     || ltb (length (s .table)) (s .store .count)
     || any (λ i. badSite (siteAt (listOf s) i)) (s .store .count)
+    || crewsAbove (listOf s .roll)
+    || sitesUncrewed (listOf s)
     || (s .store .held && (ltb 64 (s .store .grouped) || badPlan (listOf s) (planHeld s)))
 
 -- W and q by the held groups

@@ -16,13 +16,14 @@ use Rattle.tables.specs.Tables.{net, groupsIn, Kept}
 use Rattle.held_state.specs.declared.Summary.{Summary}
 use Rattle.held_state.specs.Held.{State, badSite, corrupt}
 
--- The values are those of the state: its figures, and as many sites, groups and shares as it holds, where there is room for them.
+-- The values are those of the state: its figures, its roll or the lack of one, and as many sites, groups and shares as it holds, where there is room for them.
 pub record Stands (s : State) (list : ListArray) (k : Summary) (gs ss : List ℕ) : Type 0 where
   pub count : list .count ≡ s .store .count
   pub places : k .places ≡ length (s .table)
   pub held : k .held ≡ s .store .held
   pub grouped : k .grouped ≡ s .store .grouped
   pub sites : list .count ≤ 512 → list .count ≤ k .places → take (list .count) (list .sites) ≡ take (list .count) (s .table)
+  pub roll : list .roll ≡ s .store .roll
   pub groups : k .grouped ≤ 64 → take (k .grouped) gs ≡ take (k .grouped) (s .store .groups)
   pub shares : list .count ≤ 512 → take (list .count) ss ≡ take (list .count) (s .store .shares)
 

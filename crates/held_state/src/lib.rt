@@ -1,6 +1,8 @@
 // What a store holds: its state, row 0, and the figures of a held plan.
 use density::Site;
 use records::ListArray;
+use records::RollArray;
+use records::roll;
 use records::scan;
 use tables::Form;
 use tables::Verdict;
@@ -12,21 +14,23 @@ ghost use lib.IntN.{pos, _-ℤ_};
 ghost use lib.ListN.{length, getD};
 ghost use Rattle.sets.specs.Set.{has, setOf};
 ghost use Rattle.sets.specs.Sum.{any};
-ghost use Rattle.density.specs.Network.{noSite};
+ghost use Rattle.density.specs.Network.{noSite, uncrewed};
 ghost use Rattle.density.specs.Figures.{differenceOf, groupsRead, depotsRead};
 ghost use Rattle.records.specs.declared.ListArray.{ListArray};
 ghost use Rattle.records.specs.declared.PlanArray.{PlanArray};
+ghost use Rattle.records.specs.Values.{rollIn};
 ghost use Rattle.tables.specs.Tables.{net, groupsIn, Kept, lentPlan};
 ghost use Rattle.held_state.specs.Held.{State, badSite, corrupt};
 ghost use Rattle.held_state.specs.Values.{BadKnown, Stands, Examined, heldLitres, heldSize};
 
-// What is held beside the table: how many of its places are sites, and a plan or none.
+// What is held beside the table: how many of its places are sites, a plan or none, and the list's roll or none.
 pub struct Store {
     pub count: usize,
     pub held: bool,
     pub grouped: usize,
     pub groups: [u64; 64],
     pub shares: [u64; 512],
+    pub roll: RollArray,
 }
 
 // What a call goes by beside the held sites and the arrays of the plan: the places of the table, whether a plan is held and of how many groups, and whether rows 5 or 6 refuse a held site.
@@ -73,6 +77,19 @@ pub fn is_any_bad(sites: [Site; 512], n: usize) -> bool
     false
 }
 
+// Does row 23 refuse a site? Without a roll none is looked at, and none is copied.
+fn is_any_uncrewed(list: ListArray) -> bool
+    requires { ⌜ list .count ≤ 512 ⌝ }
+    ensures { λ r. ⌜ r ≡ any (λ i. uncrewed (rollIn (list .roll)) (getD (list .sites) i noSite)) (list .count) ⌝ }
+{
+    let roll = list.roll;
+    if !roll.there {
+        return false;
+    }
+    let sites = list.sites;
+    roll::any_uncrewed(roll, sites, list.count)
+}
+
 // What row 0 leaves without a held plan: no tables.
 fn without_tables(verdict: Verdict) -> Form
     ensures { λ r. ⌜ r .verdict ≡ verdict ⌝ }
@@ -101,6 +118,13 @@ pub fn examine(
         return without_tables(Verdict::Refused(0));
     }
     if known.bad {
+        return without_tables(Verdict::Refused(0));
+    }
+    let roll = list.roll;
+    if roll::is_above(roll) {
+        return without_tables(Verdict::Refused(0));
+    }
+    if is_any_uncrewed(list) {
         return without_tables(Verdict::Refused(0));
     }
     if !known.held {

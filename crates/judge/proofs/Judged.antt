@@ -4,7 +4,7 @@ use mathlib.Core.List.{List}
 use mathlib.Core.Option.{none, some}
 use Prim.Native.Nat.{ℕ, _≤_}
 use lib.Dec.{T}
-use Rattle.density.specs.Network.{Listing, depotsInRange}
+use Rattle.density.specs.Network.{Listing, inRange}
 use Rattle.records.specs.declared.Edition.{Edition}
 use Rattle.records.specs.declared.ListRead.{ListRead}
 use Rattle.records.specs.declared.PlanRead.{PlanRead}
@@ -30,7 +30,7 @@ module _ (e : Edition) (list plan : List ℕ) {r : ListRead} (given : r ≡ list
     pub few-sites : r .list .count ≤ 512
     few-sites = array-few (readList e 512 list) given counts e list (λ l h. h)
 
-    pub in-range : T (depotsInRange (listing (r .list)))
+    pub in-range : T (inRange (listing (r .list)))
     in-range = array-range (readList e 512 list) given counts e list (λ l h. h)
 
     -- what is judged of the plan for it decides

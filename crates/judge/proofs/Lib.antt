@@ -4,3 +4,4 @@ pub mod Truth
 pub mod Widths
 pub mod Examples
 pub mod Contracts
+pub mod Ones

@@ -9,7 +9,7 @@ use native.Mathlib.Omega.{arith}
 use borrow.Author.Tests.{not-true}
 use lib.Dec.{T, ltb, eqb}
 use lib.ListN.{length}
-use Rattle.density.specs.Network.{Listing, network, depotsInRange}
+use Rattle.density.specs.Network.{Listing, network, inRange}
 use Rattle.density.specs.Plan.{Formed}
 use Rattle.density.specs.Rows.{firstRow, planRows}
 use Rattle.density.proofs.Lists.{valid}
@@ -22,11 +22,11 @@ use Rattle.records.specs.Outcome.{Outcome, refused, passed, settle, gate, bind}
 use Rattle.records.specs.Format.{edition1, edition2, editionOf, readList, readPlan}
 use Rattle.records.specs.Write.{LaidOut, Marked}
 use Rattle.records.proofs.Outcomes.{clear, gate-numbered, bind-numbered, plan-numbered}
-use Rattle.records.proofs.RoundTrip.{list-few, list-depots, laid-read, read-laid}
+use Rattle.records.proofs.RoundTrip.{list-few, list-range, laid-read, read-laid}
 use Rattle.readers.proofs.Editions.{marks}
 use Rattle.judge.specs.Check.{judgedFor, refusal, checkRow, True, TrueOf}
 
-formed : (e : Edition) (l : Listing) (p : Plan) (s : List ℕ) → LaidOut e l p s → Formed (network l) (p .groups) (p .shares)
+pub formed : (e : Edition) (l : Listing) (p : Plan) (s : List ℕ) → LaidOut e l p s → Formed (network l) (p .groups) (p .shares)
 unfolding network
 formed e l p s o = record { sets = o .sets; each = o .each }
 
@@ -46,7 +46,7 @@ judged-numbered e l plan =
     (λ (p : Plan). gate-numbered (planRows (network l) (p .groups) (p .shares)) tt p)
 
 -- the plans that no row refuses for a list, and those that are true of it
-module _ (e : Edition) (l : Listing) (range : T (depotsInRange l)) (plan : List ℕ) (p : Plan) where
+module _ (e : Edition) (l : Listing) (range : T (inRange l)) (plan : List ℕ) (p : Plan) where
   pub judged-true : Bytes plan → judgedFor e l plan ≡ passed p → True e l p plan
   judged-true b h = by-read (readPlan e (length (l .sites)) plan) refl h
     where
@@ -76,7 +76,7 @@ module _ (e : Edition) (list plan : List ℕ) where
     where
       by-plan : (l : Listing) → readList e 512 list ≡ passed l → (o : Outcome Plan) → judgedFor e l plan ≡ o → refusal o ≡ none → TrueOf e list plan
       by-plan l r (refused n) k h = let z : _≡_ {A = ℕ} 0 1 = cc in absurd (omega arith)
-      by-plan l r (passed p) k h = (l, p, r, judged-true e l (list-depots e 512 list r) plan p b k)
+      by-plan l r (passed p) k h = (l, p, r, judged-true e l (list-range e 512 list r) plan p b k)
 
       by-list : (o : Outcome Listing) → readList e 512 list ≡ o → refusal (bind o (λ (l : Listing). judgedFor e l plan)) ≡ none → TrueOf e list plan
       by-list (refused n) r h = let z : _≡_ {A = ℕ} 0 1 = cc in absurd (omega arith)
@@ -84,7 +84,7 @@ module _ (e : Edition) (list plan : List ℕ) where
 
   →passes : Marked e → TrueOf e list plan → checkRow e list plan ≡ none
   unfolding checkRow
-  →passes m (l, p, r, t) = rw (r, true-judged e l (list-depots e 512 list r) plan p m (list-few e 512 list r .0) t) refl
+  →passes m (l, p, r, t) = rw (r, true-judged e l (list-range e 512 list r) plan p m (list-few e 512 list r .0) t) refl
 
   -- Check passes exactly if the list reads and the bytes are a plan that is true of it
   pub check-true-by : Marked e → Bytes plan → checkRow e list plan ≡ none ↔ TrueOf e list plan

@@ -18,8 +18,8 @@ use Rattle.records.specs.Write.{LaidOut}
 abbrev pub judgedFor : Edition → Listing → List ℕ → Outcome Plan
 judgedFor e l plan = bind (readPlan e (length (l .sites)) plan) (λ (p : Plan). gate (planRows (network l) (p .groups) (p .shares)) p)
 
--- "Check: a list and a plan; passes or refuses. When the list is refused, the plan is not read": rows 1 to 6 of the list, then rows 7 to 16 of the
--- plan for it
+-- "Check: a list and a plan; passes or refuses. When the list is refused, the plan is not read": rows 1 to 6, 22 and 23 of the list, then rows 7 to 16 of
+-- the plan for it
 abbrev pub judged : Edition → List ℕ → List ℕ → Outcome Plan
 judged e list plan = bind (readList e 512 list) (λ (l : Listing). judgedFor e l plan)
 

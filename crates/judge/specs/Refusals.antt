@@ -1,7 +1,8 @@
--- Document 01, "When the gate stays shut": the examples of rows 1 to 16, as bytes. Document 02, c: rows of its longer records.
+-- Document 01, "When the gate stays shut": the examples of rows 1 to 16, as bytes. Document 02, c: rows of its longer records; g: rows of rolls.
 use mathlib.Core.List.{List, [], _∷_}
 use Prim.Native.Nat.{ℕ}
-use Rattle.records.specs.Samples.{listT, planT, listBig, planBig}
+use lib.ListN.{replicate}
+use Rattle.records.specs.Samples.{listT, planT, listBig, planBig, listWith, listRolled}
 
 -- what Check is given
 pub record Given : Type 0 where
@@ -80,7 +81,11 @@ head2 rest = 0x4C ∷ 0x32 ∷ 0x01 ∷ 0x00 ∷ rest
 abbrev pub plan2 : List ℕ → List ℕ
 plan2 rest = 0x50 ∷ 0x32 ∷ 0x01 ∷ 0x01 ∷ 0x00 ∷ group 3 rest
 
--- one site of 70,000 litres (`listBig`) and its plan, changed
+-- s, below 256, in 8 bytes
+abbrev pub share2 : ℕ → List ℕ
+share2 x = 0x53 ∷ 0x33 ∷ x ∷ 0x00 ∷ 0x00 ∷ 0x00 ∷ 0x00 ∷ 0x00 ∷ 0x00 ∷ 0x00 ∷ []
+
+-- one site of 70,000 litres (`listBig`) and its plan, changed; then one of 12 litres between depots of three crews and one (`listRolled`), changed
 unfoldable pub refusals2 : List Refusal
 refusals2 =
     -- a list of neither edition
@@ -105,4 +110,11 @@ refusals2 =
     ∷ gets 14 listBig (plan2 (0x53 ∷ 0x33 ∷ 0x70 ∷ 0x11 ∷ 0x01 ∷ 0x00 ∷ 0x01 ∷ 0x00 ∷ 0x00 ∷ 0x00 ∷ []))
     -- s = 70,001
     ∷ gets 15 listBig (plan2 (0x53 ∷ 0x33 ∷ 0x71 ∷ 0x11 ∷ 0x01 ∷ 0x00 ∷ 0x00 ∷ 0x00 ∷ 0x00 ∷ 0x00 ∷ []))
+    -- no litres, and a roll byte of 10: row 6 is before row 22
+    ∷ gets 6 (head2 (0x53 ∷ 0x32 ∷ 0x00 ∷ 0x01 ∷ 0x00 ∷ 0x00 ∷ 0x00 ∷ 0x00 ∷ 0x44 ∷ 0x52 ∷ 10 ∷ replicate 63 0)) []
+    -- a roll byte of 10, and a site's depot without crews; then that depot alone; each with no plan, so that row 7 would refuse it
+    ∷ gets 22 (listWith (0x44 ∷ 0x52 ∷ 0 ∷ 1 ∷ 10 ∷ replicate 61 0)) []
+    ∷ gets 23 (listWith (0x44 ∷ 0x52 ∷ 3 ∷ 0 ∷ replicate 62 1)) []
+    -- s = 24 of 48, where three crews are to have 36
+    ∷ gets 15 listRolled (plan2 (share2 24))
     ∷ []

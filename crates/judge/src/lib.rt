@@ -8,7 +8,7 @@ use tables::Verdict;
 ghost use mathlib.Core.Path.{_≡_};
 ghost use Prim.Native.Nat.{_≤_};
 ghost use lib.Dec.{T};
-ghost use Rattle.density.specs.Network.{depotsInRange};
+ghost use Rattle.density.specs.Network.{inRange};
 ghost use Rattle.records.specs.Answer.{planRead};
 ghost use Rattle.records.specs.Format.{editionOf};
 ghost use Rattle.records.specs.Values.{listing};
@@ -17,7 +17,7 @@ ghost use Rattle.judge.specs.Check.{judgedFor, checkRow};
 
 // A plan for a list, by rows 7 to 16: the plan, or the row that refuses it.
 pub fn plan_for(e: Edition, list: ListArray, plan: &[u8]) -> PlanRead
-    requires { ⌜ (e .share ≤ 8) × (list .count ≤ 512) × T (depotsInRange (listing list)) ⌝ }
+    requires { ⌜ (e .share ≤ 8) × (list .count ≤ 512) × T (inRange (listing list)) ⌝ }
     ensures { λ r. ⌜ r ≡ planRead (judgedFor e (listing list) (now (plan .entry))) ⌝ }
 {
     let read = readers::plan::read(e, list.count, plan);

@@ -1,29 +1,43 @@
--- The desk's store and its table as bytes that the caller lends, by the width of a share and of a site's litres. Document 01: "stored numbers are unsigned, low byte first".
+-- The desk's store and its table as bytes that the caller lends, by the width of a share and of a site's litres and by whether the edition has rolls. Document 01: "stored numbers are unsigned, low byte first".
 use mathlib.Core.Path.{_≡_}
-use mathlib.Core.Bool.{Bool, false, cond}
-use mathlib.Core.List.{List, _++_, map, flatMap}
+use mathlib.Core.Bool.{Bool, true, false, cond, not, _&&_}
+use mathlib.Core.List.{List, [], _++_, map, flatMap}
+use mathlib.Core.Option.{none}
 use Prim.Native.Nat.{ℕ, _+_, _*_, _/_, _%_, _<_, _≤_, _^_}
-use lib.Dec.{eqb, leb}
+use lib.Dec.{eqb, leb, ltb}
 use lib.ListN.{length, take, drop, getD, replicate}
 use Rattle.density.specs.declared.Site.{Site}
 use Rattle.records.specs.Bytes.{le, value, field}
 use Rattle.records.specs.Record.{records}
+use Rattle.records.specs.declared.RollArray.{RollArray}
+use Rattle.records.specs.Values.{rollArray}
 use Rattle.records.specs.Write.{onto}
 use Rattle.held_state.specs.declared.Store.{Store}
 use Rattle.layout.specs.declared.Header.{Header}
 
 -- A store: the number of sites (8), whether a plan is held (8; 0 or 1), the number of groups (8), "its 64 places for groups" (8 each) and "512 places for
--- shares", w bytes each: 2,584 bytes with shares of 4 bytes, 4,632 with shares of 8.
-abbrev pub storeSize : ℕ → ℕ
-storeSize w = 536 + w * 512
+-- shares", w bytes each. Document 02, g, where the edition has rolls: behind these whether there is a roll (8; 0 or 1), and a byte for each depot. That is 2,584 bytes in
+-- edition 1 and 4,704 in edition 2.
+abbrev pub frontSize : ℕ → ℕ
+frontSize w = 536 + w * 512
 
-unfoldable pub storeBytes : ℕ → Store → List ℕ
-storeBytes w s =
+abbrev pub storeSize : ℕ → Bool → ℕ
+storeSize w r = frontSize w + cond r 72 0
+
+unfoldable pub frontBytes : ℕ → Store → List ℕ
+frontBytes w s =
     le 8 (s .count)
     ++ (le 8 (cond (s .held) 1 0)
     ++ (le 8 (s .grouped)
     ++ (flatMap (le 8) (s .groups)
     ++ flatMap (le w) (s .shares))))
+
+abbrev pub rollPart : Bool → RollArray → List ℕ
+rollPart true roll = le 8 (cond (roll .there) 1 0) ++ roll .crews
+rollPart false roll = []
+
+abbrev pub storeBytes : ℕ → Bool → Store → List ℕ
+storeBytes w r s = frontBytes w s ++ rollPart r (s .roll)
 
 -- the figures of a store have the widths of its bytes
 pub record StoreFits (w : ℕ) (s : Store) : Type 0 where
@@ -38,25 +52,35 @@ pub record StoreFits (w : ℕ) (s : Store) : Type 0 where
 abbrev pub numbers : ℕ → ℕ → ℕ → List ℕ → List ℕ
 numbers w n at s = map value (records w n (drop at s))
 
-abbrev pub storeAt : ℕ → List ℕ → Store
-storeAt w s =
+-- the roll or none that stands behind the front of a store; without rolls there is none
+abbrev pub rollAt : Bool → List ℕ → RollArray
+rollAt true t = record { there = eqb (field t 0 8) 1; crews = drop 8 t }
+rollAt false t = rollArray none
+
+abbrev pub rollWrong : Bool → List ℕ → Bool
+rollWrong true t = ltb 1 (field t 0 8)
+rollWrong false t = false
+
+abbrev pub storeAt : ℕ → Bool → List ℕ → Store
+storeAt w r s =
     record {
       count = field s 0 8;
       held = eqb (field s 8 8) 1;
       grouped = field s 16 8;
       groups = numbers 8 64 24 s;
       shares = numbers w 512 536 s;
+      roll = rollAt r (drop (frontSize w) s);
     }
 
-abbrev pub isSized : ℕ → List ℕ → Bool
-isSized w s = eqb (length s) (storeSize w)
+abbrev pub isSized : ℕ → Bool → List ℕ → Bool
+isSized w r s = eqb (length s) (storeSize w r)
 
--- Bytes whose held number is neither 0 nor 1 read as a store that row 0 refuses.
+-- Bytes whose held number, or whose roll's, is neither 0 nor 1 read as a store that row 0 refuses.
 abbrev pub noStore : Store
-noStore = record { count = 513; held = false; grouped = 0; groups = replicate 64 0; shares = replicate 512 0 }
+noStore = record { count = 513; held = false; grouped = 0; groups = replicate 64 0; shares = replicate 512 0; roll = rollArray none }
 
-unfoldable pub storeIn : ℕ → List ℕ → Store
-storeIn w s = cond (leb (field s 8 8) 1) (storeAt w s) noStore
+unfoldable pub storeIn : ℕ → Bool → List ℕ → Store
+storeIn w r s = cond (leb (field s 8 8) 1 && not (rollWrong r (drop (frontSize w) s))) (storeAt w r s) noStore
 
 -- A place of a table: first depot (1), second depot (1), litres (w). Bytes behind the last whole place belong to no place.
 abbrev pub placeSize : ℕ → ℕ
@@ -86,12 +110,13 @@ sitesIn w t = map (placeIn w) (records (placeSize w) (placesIn w t) t)
 abbrev pub tableOver : ℕ → List Site → List ℕ → List ℕ
 tableOver w sites t = onto (flatMap (placeBytes w) sites) t
 
--- What is read of a store: its first words, and as many groups and shares as they say; the places behind these are as they were.
-pub record StoreRead (w : ℕ) (s gs₀ ss₀ : List ℕ) (r : Header) (gs ss : List ℕ) : Type 0 where
-  pub count : r .count ≡ storeIn w s .count
-  pub held : r .held ≡ storeIn w s .held
-  pub grouped : r .grouped ≡ storeIn w s .grouped
-  pub groups : r .grouped ≤ 64 → take (r .grouped) gs ≡ take (r .grouped) (storeIn w s .groups)
-  pub shares : r .count ≤ 512 → take (r .count) ss ≡ take (r .count) (storeIn w s .shares)
+-- What is read of a store: its first words, its roll or none, and as many groups and shares as they say; the places behind these are as they were.
+pub record StoreRead (w : ℕ) (rolls : Bool) (s gs₀ ss₀ : List ℕ) (r : Header) (gs ss : List ℕ) : Type 0 where
+  pub count : r .count ≡ storeIn w rolls s .count
+  pub held : r .held ≡ storeIn w rolls s .held
+  pub grouped : r .grouped ≡ storeIn w rolls s .grouped
+  pub roll : r .roll ≡ storeIn w rolls s .roll
+  pub groups : r .grouped ≤ 64 → take (r .grouped) gs ≡ take (r .grouped) (storeIn w rolls s .groups)
+  pub shares : r .count ≤ 512 → take (r .count) ss ≡ take (r .count) (storeIn w rolls s .shares)
   pub groups-behind : r .grouped ≤ 64 → drop (r .grouped) gs ≡ drop (r .grouped) gs₀
   pub shares-behind : r .count ≤ 512 → drop (r .count) ss ≡ drop (r .count) ss₀

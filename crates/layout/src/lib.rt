@@ -1,24 +1,31 @@
-// The store and the table laid in bytes, by the width of a share and of a site's litres: what bytes stand for.
+// The store and the table laid in bytes, by the width of a share and of a site's litres and by whether the edition has rolls: what bytes stand for.
 // Numbers and places are read one after another by loops over a width; the widths of both editions are given to them as constants.
 use density::Site;
 use held_state::is_bad;
 use records::ListArray;
+use records::RollArray;
+use records::no_roll;
 use records::number::field;
+use records::roll::bytes_at;
 use records::scan::either;
 use table::capacity;
 ghost use mathlib.Core.Path.{_≡_};
+ghost use mathlib.Core.Bool.{false, cond};
+ghost use mathlib.Core.Option.{none};
 ghost use Prim.Native.Nat.{_<_, _≤_, _+_, _*_, _-_, _^_, min};
 ghost use lib.ListN.{length, take, drop, getD};
 ghost use Rattle.sets.specs.Sum.{any};
 ghost use Rattle.density.specs.Network.{noSite};
+ghost use Rattle.records.specs.Values.{rollArray};
 ghost use Rattle.held_state.specs.Held.{badSite};
-ghost use Rattle.layout.specs.Layout.{storeSize, placeSize, placesIn, numbers, placeIn, sitesIn, siteOfNumber, StoreRead};
+ghost use Rattle.layout.specs.Layout.{storeSize, rollAt, rollWrong, placeSize, placesIn, numbers, placeIn, sitesIn, siteOfNumber, StoreRead};
 
-// The first words of a store: how many sites it has, whether a plan is held, and of how many groups.
+// The first words of a store: how many sites it has, whether a plan is held, and of how many groups; and its roll or none.
 pub struct Header {
     pub count: usize,
     pub held: bool,
     pub grouped: usize,
+    pub roll: RollArray,
 }
 
 // The smaller of two.
@@ -56,18 +63,58 @@ fn numbers_in(out: &mut [u64], s: &[u8], from: usize, w: usize)
     numbers_by(out, s, from, w)
 }
 
-// Reads a store: its first words, and as many groups and shares as they say.
-pub fn store_in(s: &[u8], w: usize, groups: &mut [u64], shares: &mut [u64]) -> Header
-    requires { ⌜ (w ≤ 8) × (length (now s) ≡ storeSize w) × (length (now groups) ≡ 64) × (length (now shares) ≡ 512) ⌝ }
-    ensures { λ r. ⌜ StoreRead w (now (s .entry)) (now (groups .entry)) (now (shares .entry)) r (now (groups .exit)) (now (shares .exit)) ⌝ }
+// What bytes that are no store read as: more sites than a store can have.
+fn no_store() -> Header
+    ensures { λ r. ⌜ r ≡ record { count = 513; held = false; grouped = 0; roll = rollArray none } ⌝ }
+{
+    let roll = no_roll();
+    Header {
+        count: 513,
+        held: false,
+        grouped: 0,
+        roll,
+    }
+}
+
+// Is the number in front of a roll's crews, at a place of `s`, neither 0 nor 1?
+fn is_roll_wrong(s: &[u8], at: usize, rolls: bool) -> bool
+    requires { ⌜ length (now s) ≡ at + cond rolls 72 0 ⌝ }
+    ensures { λ r. ⌜ r ≡ rollWrong rolls (drop at (now (s .entry))) ⌝ }
+{
+    if !rolls {
+        return false;
+    }
+    1 < field(s, at, 8)
+}
+
+// The roll or none at a place of `s`; none where the edition has no rolls.
+fn roll_in(s: &[u8], at: usize, rolls: bool) -> RollArray
+    requires { ⌜ length (now s) ≡ at + cond rolls 72 0 ⌝ }
+    ensures { λ r. ⌜ r ≡ rollAt rolls (drop at (now (s .entry))) ⌝ }
+{
+    if !rolls {
+        return no_roll();
+    }
+    let there = field(s, at, 8);
+    let crews = bytes_at(s, at + 8);
+    RollArray {
+        there: there == 1,
+        crews,
+    }
+}
+
+// Reads a store: its first words, its roll or none, and as many groups and shares as they say.
+pub fn store_in(s: &[u8], w: usize, rolls: bool, groups: &mut [u64], shares: &mut [u64]) -> Header
+    requires { ⌜ (w ≤ 8) × (length (now s) ≡ storeSize w rolls) × (length (now groups) ≡ 64) × (length (now shares) ≡ 512) ⌝ }
+    ensures { λ r. ⌜ StoreRead w rolls (now (s .entry)) (now (groups .entry)) (now (shares .entry)) r (now (groups .exit)) (now (shares .exit)) ⌝ }
 {
     let held = field(s, 8, 8);
     if 1 < held {
-        return Header {
-            count: 513,
-            held: false,
-            grouped: 0,
-        };
+        return no_store();
+    }
+    let front = 536 + w * 512;
+    if is_roll_wrong(s, front, rolls) {
+        return no_store();
     }
     let count = field(s, 0, 8) as usize;
     let grouped = field(s, 16, 8) as usize;
@@ -75,10 +122,12 @@ pub fn store_in(s: &[u8], w: usize, groups: &mut [u64], shares: &mut [u64]) -> H
     let n = least(count, 512);
     numbers_in(&mut groups[..g], s, 24, 8);
     numbers_in(&mut shares[..n], s, 536, w);
+    let roll = roll_in(s, front, rolls);
     Header {
         count,
         held: held == 1,
         grouped,
+        roll,
     }
 }
 
@@ -113,10 +162,10 @@ pub fn site_in(t: &[u8], at: usize, w: usize) -> Site
     site_of(field(t, at, 2 + w))
 }
 
-// The sites of the first n places, each of `size` bytes.
-fn list_by(t: &[u8], size: usize, n: usize) -> ListArray
+// The list of a roll or none and of the sites of the first n places, each of `size` bytes.
+fn list_by(t: &[u8], size: usize, n: usize, roll: RollArray) -> ListArray
     requires { ⌜ (2 ≤ size) × (size ≤ 6) ⌝ }
-    ensures { λ r. ⌜ (r .count ≡ n) × (n ≤ 512 → n ≤ placesIn (size - 2) (now (t .entry)) → take n (r .sites) ≡ take n (sitesIn (size - 2) (now (t .entry)))) ⌝ }
+    ensures { λ r. ⌜ (r .count ≡ n) × (r .roll ≡ roll) × (n ≤ 512 → n ≤ placesIn (size - 2) (now (t .entry)) → take n (r .sites) ≡ take n (sitesIn (size - 2) (now (t .entry)))) ⌝ }
 {
     let places = least(n, capacity(t.len() / size));
     let none = no_site();
@@ -128,21 +177,25 @@ fn list_by(t: &[u8], size: usize, n: usize) -> ListArray
         at += size;
         i += 1;
     }
-    ListArray { count: n, sites }
+    ListArray {
+        count: n,
+        sites,
+        roll,
+    }
 }
 
-// The list of the first n places.
-pub fn list_in(t: &[u8], w: usize, n: usize) -> ListArray
+// The list of the first n places, with its roll or none.
+pub fn list_in(t: &[u8], w: usize, n: usize, roll: RollArray) -> ListArray
     requires { ⌜ w ≤ 4 ⌝ }
-    ensures { λ r. ⌜ (r .count ≡ n) × (n ≤ 512 → n ≤ placesIn w (now (t .entry)) → take n (r .sites) ≡ take n (sitesIn w (now (t .entry)))) ⌝ }
+    ensures { λ r. ⌜ (r .count ≡ n) × (r .roll ≡ roll) × (n ≤ 512 → n ≤ placesIn w (now (t .entry)) → take n (r .sites) ≡ take n (sitesIn w (now (t .entry)))) ⌝ }
 {
     if w == 2 {
-        return list_by(t, 4, n);
+        return list_by(t, 4, n, roll);
     }
     if w == 4 {
-        return list_by(t, 6, n);
+        return list_by(t, 6, n, roll);
     }
-    list_by(t, 2 + w, n)
+    list_by(t, 2 + w, n, roll)
 }
 
 // Is one of the first n places, each of `size` bytes, a bad site?

@@ -1,26 +1,28 @@
 -- Laws of places that are written: one site written alone, the first sites, and zeros. Assumes nothing.
-use Prim.Native.Nat.{ℕ, zero, suc, _+_, _*_, _/_, _<_, _≤_, _^_}
-use mathlib.Core.List.{List, [], _∷_, _++_, append-assoc, append-nil, flatMap, map}
+use Prim.Native.Nat.{ℕ, zero, suc, _+_, _*_, _-_, _/_, _<_, _≤_, _^_}
+use mathlib.Core.List.{List, [], _∷_, _++_, append-assoc, flatMap, map}
 use mathlib.Core.Path.{_≡_, refl, ap, ap₂, sym, _∙_}
 use native.Mathlib.Nat.{mul-suc, mul-zero, zero-add, suc-add, add-assoc, not-suc-le-zero, le-of-suc-le-suc}
 use native.Mathlib.Numerals.{add-one}
 use native.Mathlib.Omega.{arith}
+use borrow.Rule.Slice.PartMut.{putMid}
 use lib.Dec.{lit<}
 use lib.ListN.{length, take, drop, getD, set, replicate, length-drop, length-replicate, length-set}
-use lib.Seq.{drop-at, take-at, drop-drop, length-take-le, take-add, take-set-le, getD-set-same, drop-length}
+use lib.Seq.{drop-at, take-at, drop-drop, length-take-le, take-add, take-set-le, getD-set-same}
 use Rattle.density.specs.declared.Site.{Site}
 use Rattle.density.specs.Network.{noSite}
 use Rattle.records.specs.Bytes.{Bytes, le}
+use Rattle.records.specs.declared.RollArray.{RollArray}
 use Rattle.records.specs.Record.{records}
 use Rattle.records.specs.Write.{place, onto, All}
 use Rattle.records.proofs.Records.{zeros, mul-room}
 use Rattle.records.proofs.Buffers.{Front, run-step, length-place}
 use Rattle.table.proofs.Overlay.{overlay-none, overlay-same, overlay-set}
 use Rattle.store.specs.State.{bare}
-use Rattle.layout.specs.Layout.{storeSize, placeSize, placesIn, storeBytes, storeIn, placeBytes, placeIn, sitesIn, tableOver, SiteFits}
+use Rattle.layout.specs.Layout.{placeSize, placesIn, frontBytes, placeBytes, placeIn, sitesIn, tableOver, StoreFits, SiteFits}
 use Rattle.layout.proofs.Reading.{length-sites}
-use Rattle.layout_put.specs.Put.{PutStore, PutSites}
-use Rattle.layout_put.proofs.RoundTrip.{place-back, length-place as length-bytes, length-store, places-room, all-over, store-back, table-back, table-again}
+use Rattle.layout_put.specs.Put.{PutFront, PutSites}
+use Rattle.layout_put.proofs.RoundTrip.{place-back, length-place as length-bytes, places-room, table-back, table-again}
 
 -- ---- one site written alone
 
@@ -119,38 +121,33 @@ flat-zero w (suc n) =
     ap₂ (λ (a b : List ℕ). a ++ b) (le-zero w) (flat-zero w n) ∙ zeros-add w (w * n) ∙ ap (λ (k : ℕ). replicate k 0) (sym m)
 
 -- a store that holds no plan is its count and zeros
-bare-bytes : (w n : ℕ) → storeBytes w (bare n) ≡ le 8 n ++ replicate (528 + w * 512) 0
-unfolding storeBytes
-bare-bytes w n =
+bare-bytes : (w n : ℕ) (roll : RollArray) → frontBytes w (bare n roll) ≡ le 8 n ++ replicate (528 + w * 512) 0
+unfolding frontBytes
+bare-bytes w n roll =
     let e : 8 + (8 + (8 * 64 + w * 512)) ≡ 528 + w * 512 = omega arith in
     ap (λ (l : List ℕ). le 8 n ++ l)
     (ap₂ (λ (a b : List ℕ). a ++ b) (le-zero 8)
     (ap₂ (λ (a b : List ℕ). a ++ b) (le-zero 8)
     (ap₂ (λ (a b : List ℕ). a ++ b) (flat-zero 8 64) (flat-zero w 512) ∙ zeros-add (8 * 64) (w * 512)) ∙ zeros-add 8 (8 * 64 + w * 512)) ∙ zeros-add 8 (8 + (8 * 64 + w * 512)) ∙ ap (λ (k : ℕ). replicate k 0) e)
 
--- a part that comes back cleared
-pub cleared : (d : List ℕ) {ys : List ℕ} → ys ≡ zeros (length d) → ys ≡ onto (zeros (length d)) d
-cleared d e =
-    e ∙ sym (ap (λ (l : List ℕ). zeros (length d) ++ l) (ap (λ (k : ℕ). drop k d) (length-zeros (length d)) ∙ drop-length d) ∙ append-nil (zeros (length d)))
+-- a part `&mut d[at..end]` that comes back cleared
+pub cleared : (at end : ℕ) (d : List ℕ) {ys : List ℕ} → at ≤ end → end ≤ length d → ys ≡ zeros (length (take (end - at) (drop at d)))
+    → putMid at (end - at) d ys ≡ place at (zeros (end - at)) d
+cleared at end d l h e =
+    let k : end - at ≤ length (drop at d) = rw length-drop (omega arith) in
+    rw (e, length-take-le (end - at) (drop at d) k, drop-drop, length-zeros)
 
-pub bare-put : (w n : ℕ) → n < 256 ^ 8 → {d out : List ℕ} {m k : ℕ} → length d ≡ storeSize w → m ≡ 528 + w * 512
-    → Front (([] ++ le 8 n) ++ replicate m 0) d out k → PutStore w (bare n) out
-bare-put w n small {d} {out} {m} h e front =
-    let s = bare n in
-    let is : out ≡ storeBytes w s =
-    front .is
-    ∙ ap (λ (j : ℕ). onto (le 8 n ++ replicate j 0) d) e
-    ∙ ap (λ (p : List ℕ). onto p d) (sym (bare-bytes w n))
-    ∙ all-over (storeBytes w s) d (length-store w s (length-zeros 64) (length-zeros 512) ∙ sym h) in
+-- a store of n sites that holds no plan, and whatever roll behind it
+pub bare-put : (w n : ℕ) (roll : RollArray) {d out : List ℕ} {m k : ℕ} → m ≡ 528 + w * 512 → Front (([] ++ le 8 n) ++ zeros m) d out k → PutFront w (bare n roll) d out
+bare-put w n roll {d} e front = front .is ∙ ap (λ (j : ℕ). onto (le 8 n ++ replicate j 0) d) e ∙ ap (λ (p : List ℕ). onto p d) (sym (bare-bytes w n roll))
+
+pub bare-fits : (w n : ℕ) (roll : RollArray) → n < 256 ^ 8 → ((i : ℕ) → getD (bare n roll .shares) i 0 < 256 ^ w) → StoreFits w (bare n roll)
+bare-fits w n roll small fits =
     record {
-      bytes = is;
-      reads = λ fits. ap (storeIn w) is
-          ∙ store-back w s (record {
-            count = small;
-            grouped = lit< tt;
-            many = length-zeros 64;
-            sets = λ i. rw zero-at (lit< tt);
-            each = length-zeros 512;
-            shares = fits;
-          });
+      count = small;
+      grouped = lit< tt;
+      many = length-zeros 64;
+      sets = λ i. rw zero-at (lit< tt);
+      each = length-zeros 512;
+      shares = fits;
     }

@@ -2,26 +2,29 @@
 use Prim.Native.Nat.{ℕ, zero, suc, _+_, _*_, _-_, _/_, _<_, _≤_, _^_}
 use mathlib.Core.Bool.{Bool, true, false, cond}
 use mathlib.Core.List.{List, [], _∷_, _++_, append-assoc, append-nil, flatMap, map, map-append}
+use mathlib.Core.Option.{none}
 use mathlib.Core.Path.{_≡_, refl, ap, ap₂, sym, _∙_}
 use native.Mathlib.Nat.{mul-suc, mul-zero, mul-comm, mul-add, sub-zero, le-of-suc-le-suc, not-suc-le-zero, mul-div-le, le-div-iff-mul-le}
 use native.Mathlib.Omega.{arith}
-use borrow.Author.Tests.{leb-true}
-use lib.Dec.{eqb, leb, lit<}
+use borrow.Author.Tests.{leb-true, le-leb, ltb-false}
+use lib.Dec.{eqb, leb, ltb, lit<}
 use lib.ListN.{length, take, drop, getD, length-append, length-map, length-drop, drop-of-length-le}
 use lib.Seq.{drop-at, drop-drop, length-take-le}
 use Rattle.density.specs.declared.Site.{Site}
+use Rattle.records.specs.declared.RollArray.{RollArray}
+use Rattle.records.specs.Values.{rollArray}
 use Rattle.records.specs.Bytes.{Bytes, le, value, field}
 use Rattle.records.specs.Record.{records}
-use Rattle.records.specs.Write.{onto, All}
+use Rattle.records.specs.Write.{place, onto, All}
 use Rattle.records.proofs.Bytes.{length-le, value-le, le-value, bytes-drop}
 use Rattle.records.proofs.Records.{length-records, all-from}
-use Rattle.records.proofs.Codec.{field-here, field-last, field-behind, le-field, le-field-last, records-flat, flat-records, flat-records-last, map-back}
-use Rattle.records.proofs.Buffers.{Front, flat-append, length-flat}
+use Rattle.records.proofs.Codec.{field-here, field-last, field-behind, le-field, le-field-last, records-flat, flat-records, map-back}
+use Rattle.records.proofs.Buffers.{Front, flat-append, length-flat, place-onto}
 use Rattle.table.specs.Table.{overlay}
 use Rattle.table.proofs.Overlay.{map-drop}
 use Rattle.held_state.specs.declared.Store.{Store}
-use Rattle.layout.specs.Layout.{storeSize, placeSize, placesIn, storeBytes, numbers, storeIn, placeBytes, placeIn, sitesIn, tableOver, StoreFits, SiteFits}
-use Rattle.layout_put.specs.Put.{PutStore}
+use Rattle.layout.specs.Layout.{frontSize, storeSize, frontBytes, rollPart, rollAt, rollWrong, placeSize, placesIn, storeBytes, numbers, storeIn, placeBytes, placeIn, sitesIn, tableOver, StoreFits, SiteFits}
+use Rattle.layout_put.specs.Put.{PutStore, PutFront}
 
 -- ---- numbers, one after another
 
@@ -30,9 +33,6 @@ numbers-back w xs t n h f =
     ap (λ (k : ℕ). map value (records w k (flatMap (le w) xs ++ t))) (sym h)
     ∙ ap (map value) (records-flat (le w) w (length-le w) xs t)
     ∙ map-back (le w) value (λ (x : ℕ). x < 256 ^ w) (value-le w) xs (all-from (λ (x : ℕ). x < 256 ^ w) 0 xs (λ i l. f i))
-
-numbers-back-last : (w : ℕ) (xs : List ℕ) (n : ℕ) → length xs ≡ n → ((i : ℕ) → getD xs i 0 < 256 ^ w) → map value (records w n (flatMap (le w) xs)) ≡ xs
-numbers-back-last w xs n h f = rw append-nil at (numbers-back w xs [] n h f)
 
 -- ---- a store
 
@@ -51,9 +51,29 @@ bit-back : (b : Bool) → eqb (bit b) 1 ≡ b
 bit-back true = refl
 bit-back false = refl
 
-pub length-store : (w : ℕ) (s : Store) → length (s .groups) ≡ 64 → length (s .shares) ≡ 512 → length (storeBytes w s) ≡ storeSize w
-unfolding storeBytes
-length-store w s h k =
+bit-low : (b : Bool) → ltb 1 (bit b) ≡ false
+bit-low true = refl
+bit-low false = refl
+
+-- the roll behind the front
+pub length-roll : (r : Bool) (o : RollArray) → length (o .crews) ≡ 64 → length (rollPart r o) ≡ cond r 72 0
+length-roll true o h = rw (length-append, length-le 8, h)
+length-roll false o h = refl
+
+roll-back : (r : Bool) (o : RollArray) → (r ≡ false → o ≡ rollArray none) → rollAt r (rollPart r o) ≡ o
+roll-back true o h =
+    ap₂ (λ (t : Bool) (c : List ℕ). record { there = t; crews = c })
+    (ap (λ (n : ℕ). eqb n 1) (field-here 8 (bit (o .there)) (o .crews) (bit-fits (o .there))) ∙ bit-back (o .there))
+    (drop-at (le 8 (bit (o .there))) (o .crews) 8 (length-le 8 (bit (o .there))))
+roll-back false o h = sym (h refl)
+
+roll-right : (r : Bool) (o : RollArray) → rollWrong r (rollPart r o) ≡ false
+roll-right true o = ap (ltb 1) (field-here 8 (bit (o .there)) (o .crews) (bit-fits (o .there))) ∙ bit-low (o .there)
+roll-right false o = refl
+
+pub length-front : (w : ℕ) (s : Store) → length (s .groups) ≡ 64 → length (s .shares) ≡ 512 → length (frontBytes w s) ≡ frontSize w
+unfolding frontBytes
+length-front w s h k =
     rw (
       length-append,
       length-append,
@@ -69,51 +89,83 @@ length-store w s h k =
     )
     (omega arith)
 
-module _ (w : ℕ) (s : Store) (f : StoreFits w s) where
+pub length-store : (w : ℕ) (r : Bool) (s : Store) → length (s .groups) ≡ 64 → length (s .shares) ≡ 512 → length (s .roll .crews) ≡ 64 → length (storeBytes w r s) ≡ storeSize w r
+length-store w r s h k l = length-append (frontBytes w s) (rollPart r (s .roll)) ∙ ap₂ (λ (m n : ℕ). m + n) (length-front w s h k) (length-roll r (s .roll) l)
+
+module _ (w : ℕ) (r : Bool) (s : Store) (f : StoreFits w s) where
   abbrev gs : List ℕ
   gs = flatMap (le 8) (s .groups)
 
   abbrev ss : List ℕ
   ss = flatMap (le w) (s .shares)
 
+  -- what stands behind the number of sites, the held number, the number of groups and the groups
+  abbrev behind₃ : List ℕ
+  behind₃ = ss ++ rollPart r (s .roll)
+
+  abbrev behind₂ : List ℕ
+  behind₂ = gs ++ behind₃
+
+  abbrev behind₁ : List ℕ
+  behind₁ = le 8 (s .grouped) ++ behind₂
+
+  abbrev behind₀ : List ℕ
+  behind₀ = le 8 (bit (s .held)) ++ behind₁
+
   abbrev whole : List ℕ
-  whole = le 8 (s .count) ++ (le 8 (bit (s .held)) ++ (le 8 (s .grouped) ++ (gs ++ ss)))
+  whole = le 8 (s .count) ++ behind₀
+
+  parts : storeBytes w r s ≡ whole
+  unfolding frontBytes
+  parts = simp append-assoc
 
   held-back : field whole 8 8 ≡ bit (s .held)
-  held-back =
-      field-behind (le 8 (s .count)) (le 8 (bit (s .held)) ++ (le 8 (s .grouped) ++ (gs ++ ss))) 8 0 8 (length-le 8 (s .count))
-      ∙ field-here 8 (bit (s .held)) (le 8 (s .grouped) ++ (gs ++ ss)) (bit-fits (s .held))
+  held-back = field-behind (le 8 (s .count)) behind₀ 8 0 8 (length-le 8 (s .count)) ∙ field-here 8 (bit (s .held)) behind₁ (bit-fits (s .held))
 
   grouped-back : field whole 16 8 ≡ s .grouped
   grouped-back =
-      field-behind (le 8 (s .count)) (le 8 (bit (s .held)) ++ (le 8 (s .grouped) ++ (gs ++ ss))) 8 8 8 (length-le 8 (s .count))
-      ∙ field-behind (le 8 (bit (s .held))) (le 8 (s .grouped) ++ (gs ++ ss)) 8 0 8 (length-le 8 (bit (s .held)))
-      ∙ field-here 8 (s .grouped) (gs ++ ss) (f .grouped)
+      field-behind (le 8 (s .count)) behind₀ 8 8 8 (length-le 8 (s .count))
+      ∙ field-behind (le 8 (bit (s .held))) behind₁ 8 0 8 (length-le 8 (bit (s .held)))
+      ∙ field-here 8 (s .grouped) behind₂ (f .grouped)
 
-  behind-head : drop 24 whole ≡ gs ++ ss
+  behind-head : drop 24 whole ≡ behind₂
   behind-head =
-      let a = le 8 (s .count) in
-      let b = le 8 (bit (s .held)) in
-      let c = le 8 (s .grouped) in
       sym (drop-drop 16 8 whole)
-      ∙ ap (drop 16) (drop-at a (b ++ (c ++ (gs ++ ss))) 8 (length-le 8 (s .count)))
-      ∙ sym (drop-drop 8 8 (b ++ (c ++ (gs ++ ss))))
-      ∙ ap (drop 8) (drop-at b (c ++ (gs ++ ss)) 8 (length-le 8 (bit (s .held))))
-      ∙ drop-at c (gs ++ ss) 8 (length-le 8 (s .grouped))
+      ∙ ap (drop 16) (drop-at (le 8 (s .count)) behind₀ 8 (length-le 8 (s .count)))
+      ∙ sym (drop-drop 8 8 behind₀)
+      ∙ ap (drop 8) (drop-at (le 8 (bit (s .held))) behind₁ 8 (length-le 8 (bit (s .held))))
+      ∙ drop-at (le 8 (s .grouped)) behind₂ 8 (length-le 8 (s .grouped))
 
-  behind-groups : drop 536 whole ≡ ss
+  behind-groups : drop 536 whole ≡ behind₃
   behind-groups =
       sym (drop-drop 512 24 whole) ∙ ap (drop 512) behind-head
-      ∙ drop-at gs ss 512 (length-flat (le 8) 8 (length-le 8) (s .groups) ∙ ap (λ (k : ℕ). 8 * k) (f .many))
+      ∙ drop-at gs behind₃ 512 (length-flat (le 8) 8 (length-le 8) (s .groups) ∙ ap (λ (k : ℕ). 8 * k) (f .many))
+
+  behind-shares : drop (frontSize w) whole ≡ rollPart r (s .roll)
+  behind-shares =
+      sym (drop-drop (w * 512) 536 whole) ∙ ap (drop (w * 512)) behind-groups
+      ∙ drop-at ss (rollPart r (s .roll)) (w * 512) (length-flat (le w) w (length-le w) (s .shares) ∙ ap (λ (k : ℕ). w * k) (f .each))
+
+  whole-back : (r ≡ false → s .roll ≡ rollArray none) → storeIn w r whole ≡ s
+  unfolding storeIn
+  whole-back unrolled =
+      rw (
+        behind-shares,
+        roll-right r (s .roll),
+        roll-back r (s .roll) unrolled,
+        held-back,
+        bit-few (s .held),
+        bit-back (s .held),
+        field-here 8 (s .count) behind₀ (f .count),
+        grouped-back,
+      )
+      (ap₂ (λ (g h : List ℕ). record { count = s .count; held = s .held; grouped = s .grouped; groups = g; shares = h; roll = s .roll })
+      (ap (λ (l : List ℕ). map value (records 8 64 l)) behind-head ∙ numbers-back 8 (s .groups) behind₃ 64 (f .many) (f .sets))
+      (ap (λ (l : List ℕ). map value (records w 512 l)) behind-groups ∙ numbers-back w (s .shares) (rollPart r (s .roll)) 512 (f .each) (f .shares)))
 
   -- a store that is written reads back
-  pub store-back : storeIn w (storeBytes w s) ≡ s
-  unfolding storeBytes storeIn
-  store-back =
-      rw (held-back, bit-few (s .held), bit-back (s .held), field-here 8 (s .count) (le 8 (bit (s .held)) ++ (le 8 (s .grouped) ++ (gs ++ ss))) (f .count), grouped-back)
-      (ap₂ (λ (g h : List ℕ). record { count = s .count; held = s .held; grouped = s .grouped; groups = g; shares = h })
-      (ap (λ (l : List ℕ). map value (records 8 64 l)) behind-head ∙ numbers-back 8 (s .groups) ss 64 (f .many) (f .sets))
-      (ap (λ (l : List ℕ). map value (records w 512 l)) behind-groups ∙ numbers-back-last w (s .shares) 512 (f .each) (f .shares)))
+  pub store-back : (r ≡ false → s .roll ≡ rollArray none) → storeIn w r (storeBytes w r s) ≡ s
+  store-back unrolled = ap (storeIn w r) parts ∙ whole-back unrolled
 
 -- ---- a table
 
@@ -233,24 +285,16 @@ module _ (w n : ℕ) (sites : List Site) (t : List ℕ) (many : n ≤ length sit
       rest-room : k * (places - n) ≤ length t - k * n
       rest-room = omega (arith, mul-sub k places n fewer, places-room w t)
 
--- ---- a store that is written
+-- ---- the front of a store that is written
 
 regroup : (w : ℕ) (s : Store) {b : ℕ} → b ≡ cond (s .held) 1 0
-    → (((([] ++ le 8 (s .count)) ++ le 8 b) ++ le 8 (s .grouped)) ++ flatMap (le 8) (s .groups)) ++ flatMap (le w) (s .shares) ≡ storeBytes w s
-unfolding storeBytes
+    → (((([] ++ le 8 (s .count)) ++ le 8 b) ++ le 8 (s .grouped)) ++ flatMap (le 8) (s .groups)) ++ flatMap (le w) (s .shares) ≡ frontBytes w s
+unfolding frontBytes
 regroup w s e = rw e (simp append-assoc)
 
-pub all-over : (p d : List ℕ) → length p ≡ length d → onto p d ≡ p
-all-over p d h = rw (drop-of-length-le d {i = length p} (omega arith)) (append-nil p)
-
-pub store-put : (w : ℕ) (s : Store) → length (s .groups) ≡ 64 → length (s .shares) ≡ 512 → (((i : ℕ) → getD (s .shares) i 0 < 256 ^ w) → StoreFits w s)
-    → {d out : List ℕ} {b k : ℕ} → length d ≡ storeSize w → b ≡ cond (s .held) 1 0
-    → Front ((((([] ++ le 8 (s .count)) ++ le 8 b) ++ le 8 (s .grouped)) ++ flatMap (le 8) (s .groups)) ++ flatMap (le w) (s .shares)) d out k
-    → PutStore w s out
-store-put w s many each f {d} {out} h e front =
-    let is : out ≡ storeBytes w s =
-    front .is ∙ ap (λ (p : List ℕ). onto p d) (regroup w s e) ∙ all-over (storeBytes w s) d (length-store w s many each ∙ sym h) in
-    record { bytes = is; reads = λ fits. ap (storeIn w) is ∙ store-back w s (f fits) }
+pub front-put : (w : ℕ) (s : Store) {d out : List ℕ} {b k : ℕ} → b ≡ cond (s .held) 1 0
+    → Front ((((([] ++ le 8 (s .count)) ++ le 8 b) ++ le 8 (s .grouped)) ++ flatMap (le 8) (s .groups)) ++ flatMap (le w) (s .shares)) d out k → PutFront w s d out
+front-put w s {d} e front = front .is ∙ ap (λ (p : List ℕ). onto p d) (regroup w s e)
 
 -- ---- a store that is read is written again
 
@@ -262,7 +306,14 @@ bit-again (suc (suc x)) h = let k = leb-true (suc (suc x)) 1 h in absurd (omega 
 number-again : (w : ℕ) (r : List ℕ) → length r ≡ w → Bytes r → le w (value r) ≡ r
 number-again w r h b = ap (λ (k : ℕ). le k (value r)) (sym h) ∙ le-value r b
 
-module _ (w : ℕ) (s : List ℕ) (long : length s ≡ storeSize w) (b : Bytes s) where
+roll-again : (r : Bool) (t : List ℕ) → length t ≡ cond r 72 0 → Bytes t → rollWrong r t ≡ false → rollPart r (rollAt r t) ≡ t
+roll-again true t long b h =
+    let few : field t 0 8 ≤ 1 = ltb-false 1 (field t 0 8) h in
+    rw (bit-again (field t 0 8) (le-leb (field t 0 8) 1 few), le-field t 0 8 b (omega arith))
+roll-again false [] long b h = refl
+roll-again false (x ∷ t) long b h = let z : ⊥ = omega arith in absurd z
+
+module _ (w : ℕ) (r : Bool) (s : List ℕ) (long : length s ≡ storeSize w r) (b : Bytes s) where
   no-test : (rs : List (List ℕ)) → All (λ (r : List ℕ). _≡_ {A = Bool} false false) rs
   no-test rs = all-from (λ (r : List ℕ). _≡_ {A = Bool} false false) [] rs (λ i l. refl)
 
@@ -272,20 +323,73 @@ module _ (w : ℕ) (s : List ℕ) (long : length s ≡ storeSize w) (b : Bytes s
       ∙ flat-records (le 8) 8 value (λ (r : List ℕ). false) (λ r h b e. number-again 8 r h b) 64 (drop 24 s) (rw length-drop (omega arith)) (bytes-drop 24 s b)
       (no-test (records 8 64 (drop 24 s)))
 
-  shares-again : flatMap (le w) (numbers w 512 536 s) ≡ drop 536 s
+  shares-again : flatMap (le w) (numbers w 512 536 s) ++ drop (frontSize w) s ≡ drop 536 s
   shares-again =
-      flat-records-last (le w) w value (λ (r : List ℕ). false) (λ r h b e. number-again w r h b) 512 (drop 536 s) (rw length-drop (omega arith)) (bytes-drop 536 s b)
+      ap (λ (l : List ℕ). flatMap (le w) (numbers w 512 536 s) ++ l) (sym (drop-drop (w * 512) 536 s))
+      ∙ flat-records (le w) w value (λ (r : List ℕ). false) (λ r h b e. number-again w r h b) 512 (drop 536 s) (rw length-drop (omega arith)) (bytes-drop 536 s b)
       (no-test (records w 512 (drop 536 s)))
 
-  pub store-again : leb (field s 8 8) 1 ≡ true → storeBytes w (storeIn w s) ≡ s
-  unfolding storeBytes storeIn
-  store-again h =
+  -- what stands behind the front, where its number is 0 or 1
+  pub last-again : rollWrong r (drop (frontSize w) s) ≡ false → rollPart r (rollAt r (drop (frontSize w) s)) ≡ drop (frontSize w) s
+  last-again = roll-again r (drop (frontSize w) s) (rw length-drop (omega arith)) (bytes-drop (frontSize w) s b)
+
+  pub store-again : leb (field s 8 8) 1 ≡ true → rollWrong r (drop (frontSize w) s) ≡ false → storeBytes w r (storeIn w r s) ≡ s
+  unfolding frontBytes storeIn
+  store-again h z =
       rw (
         h,
+        z,
         bit-again (field s 8 8) h,
+        last-again z,
+        append-assoc,
+        append-assoc,
+        append-assoc,
+        append-assoc,
         shares-again,
         groups-again,
         le-field s 16 8 b (omega arith),
         le-field s 8 8 b (omega arith),
         le-field s 0 8 b (omega arith),
       )
+
+-- ---- a store whose front and whose roll are written apart
+
+pub all-over : (p d : List ℕ) → length p ≡ length d → onto p d ≡ p
+all-over p d h = rw (drop-of-length-le d {i = length p} (omega arith)) (append-nil p)
+
+module _ (w : ℕ) (r : Bool) (s : Store) (many : length (s .groups) ≡ 64) (each : length (s .shares) ≡ 512)
+    (fit : ((i : ℕ) → getD (s .shares) i 0 < 256 ^ w) → StoreFits w s) (first : List ℕ) (long : length first ≡ storeSize w r) {last : List ℕ} where
+  store-is : last ≡ storeBytes w r s → PutStore w r s last
+  store-is is = record { bytes = is; reads = λ fits unrolled. ap (storeIn w r) is ∙ store-back w r s (fit fits) unrolled }
+
+  -- the roll is written behind the front
+  pub put-both : length (s .roll .crews) ≡ 64 → {front : List ℕ} → PutFront w s first front → last ≡ place (frontSize w) (rollPart r (s .roll)) front → PutStore w r s last
+  put-both crews {front} f l =
+      let p = frontBytes w s in
+      let q = rollPart r (s .roll) in
+      let size : length (p ++ q) ≡ length first = length-store w r s many each crews ∙ sym long in
+      store-is (l ∙ ap (place (frontSize w) q) f ∙ place-onto (frontSize w) p q first (length-front w s many each) ∙ all-over (p ++ q) first size)
+
+  -- what stands behind the front is as it was
+  pub put-over : PutFront w s first last → drop (frontSize w) first ≡ rollPart r (s .roll) → PutStore w r s last
+  put-over f e = store-is (f ∙ ap (λ (n : ℕ). frontBytes w s ++ drop n first) (length-front w s many each) ∙ ap (λ (t : List ℕ). frontBytes w s ++ t) e)
+
+  -- that is the roll read, where its number is 0 or 1
+  pub put-kept : Bytes first → rollWrong r (drop (frontSize w) first) ≡ false → s .roll ≡ rollAt r (drop (frontSize w) first) → PutFront w s first last → PutStore w r s last
+  put-kept b z e f = put-over f (sym (ap (rollPart r) e ∙ last-again w r first long b z))
+
+  -- or nothing, where the edition has no rolls
+  pub put-front : r ≡ false → PutFront w s first last → PutStore w r s last
+  put-front e f =
+      put-over f
+      (drop-of-length-le first {i = frontSize w} (omega (arith, long ∙ ap (storeSize w) e)) ∙ sym (ap (λ (b : Bool). rollPart b (s .roll)) e))
+
+-- a roll that is written stands behind the front
+pub roll-behind : (w : ℕ) (o : RollArray) (d : List ℕ) → length d ≡ storeSize w true → length (o .crews) ≡ 64
+    → drop (frontSize w) (place (frontSize w) (rollPart true o) d) ≡ rollPart true o
+roll-behind w o d long crews =
+    let q = rollPart true o in
+    let rest : drop (frontSize w + length q) d ≡ [] = drop-of-length-le d {i = frontSize w + length q} (omega (arith, long, length-roll true o crews)) in
+    drop-at (take (frontSize w) d) (q ++ drop (frontSize w + length q) d) (frontSize w) (length-take-le (frontSize w) d (omega (arith, long)))
+    ∙ ap (λ (t : List ℕ). q ++ t) rest
+    ∙ append-nil q

@@ -1,18 +1,21 @@
-// What is written over the bytes of a store and of a table, by the width of a share and of a site's litres.
+// What is written over the bytes of a store and of a table, by the width of a share and of a site's litres. What stands in front of a store's roll and the roll are written apart.
 // Numbers and places are written one after another by loops over a width; the widths of both editions are given as constants to that of the places, edition 1's to that of the shares.
 use density::Site;
+use records::RollArray;
 use writers_numbers::body_of;
+use writers_numbers::crews;
 use writers_numbers::number_at;
 ghost use mathlib.Core.Path.{_≡_};
-ghost use mathlib.Core.Bool.{true};
+ghost use mathlib.Core.Bool.{true, cond};
 ghost use mathlib.Core.List.{flatMap};
-ghost use Prim.Native.Nat.{_<_, _≤_, _+_, _*_};
-ghost use lib.ListN.{length, take, replicate};
+ghost use Prim.Native.Nat.{ℕ, _<_, _≤_, _+_, _*_, _^_};
+ghost use lib.ListN.{length, take, getD, replicate};
 ghost use Rattle.records.specs.Bytes.{le};
 ghost use Rattle.records.specs.Write.{place, onto};
+ghost use Rattle.records.specs.declared.RollArray.{RollArray};
 ghost use Rattle.store.specs.State.{bare};
-ghost use Rattle.layout.specs.Layout.{storeSize, placeSize, placeBytes, tableOver};
-ghost use Rattle.layout_put.specs.Put.{PutStore, PutSites};
+ghost use Rattle.layout.specs.Layout.{frontSize, storeSize, rollPart, placeSize, placeBytes, tableOver, StoreFits};
+ghost use Rattle.layout_put.specs.Put.{PutFront, PutSites};
 
 // Writes numbers of `w` bytes, one behind the other, to the front of `out`.
 fn put_numbers(out: &mut [u8], w: usize, xs: &[u64])
@@ -39,16 +42,17 @@ fn clear(out: &mut [u8])
     }
 }
 
-// Writes a store of n sites that holds no plan.
+// Writes a store of n sites that holds no plan. Its roll stays.
 pub fn put_bare(out: &mut [u8], w: usize, n: usize)
-    requires { ⌜ length (now out) ≡ storeSize w ⌝ }
-    ensures { λ _. ⌜ PutStore w (bare n) (now (out .exit)) ⌝ }
+    requires { ⌜ frontSize w ≤ length (now out) ⌝ }
+    ensures { λ _. ⌜ ((roll : RollArray) → PutFront w (bare n roll) (now (out .entry)) (now (out .exit))) ⌝ }
 {
+    let end = 536 + w * 512;
     number_at(out, 0, 8, n as u64);
-    clear(&mut out[8..]);
+    clear(&mut out[8..end]);
 }
 
-// Writes a store that holds a plan.
+// Writes a store that holds a plan. Its roll stays. By their types its figures have the widths, where its shares have theirs.
 pub fn put_plan(
     out: &mut [u8],
     w: usize,
@@ -57,8 +61,8 @@ pub fn put_plan(
     groups: &[u64],
     shares: &[u64],
 )
-    requires { ⌜ (length (now out) ≡ storeSize w) × (length (now groups) ≡ 64) × (length (now shares) ≡ 512) ⌝ }
-    ensures { λ _. ⌜ PutStore w (record { count = count; held = true; grouped = grouped; groups = now (groups .entry); shares = now (shares .entry) }) (now (out .exit)) ⌝ }
+    requires { ⌜ (frontSize w ≤ length (now out)) × (length (now groups) ≡ 64) × (length (now shares) ≡ 512) ⌝ }
+    ensures { λ _. ⌜ ((roll : RollArray) → PutFront w (record { count = count; held = true; grouped = grouped; groups = now (groups .entry); shares = now (shares .entry); roll = roll }) (now (out .entry)) (now (out .exit))) × ((roll : RollArray) → ((i : ℕ) → getD (now (shares .entry)) i 0 < 256 ^ w) → StoreFits w (record { count = count; held = true; grouped = grouped; groups = now (groups .entry); shares = now (shares .entry); roll = roll })) ⌝ }
 {
     number_at(out, 0, 8, count as u64);
     number_at(out, 8, 8, 1);
@@ -68,6 +72,24 @@ pub fn put_plan(
         return put_numbers(&mut out[536..], 4, shares);
     }
     put_numbers(&mut out[536..], w, shares);
+}
+
+// 1 for true and 0 for false.
+fn bit(b: bool) -> u64
+    ensures { λ r. ⌜ r ≡ cond b 1 0 ⌝ }
+{
+    if b { 1 } else { 0 }
+}
+
+// Writes the roll of a store, or the lack of one.
+pub fn put_roll(out: &mut [u8], w: usize, roll: RollArray)
+    requires { ⌜ length (now out) ≡ storeSize w true ⌝ }
+    ensures { λ _. ⌜ now (out .exit) ≡ place (frontSize w) (rollPart true roll) (now (out .entry)) ⌝ }
+{
+    let at = 536 + w * 512;
+    let bytes = roll.crews;
+    number_at(out, at, 8, bit(roll.there));
+    crews(out, at + 8, bytes);
 }
 
 // A site goes to a place of a table's bytes.

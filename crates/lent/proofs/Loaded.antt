@@ -12,12 +12,13 @@ use Rattle.records.specs.declared.Edition.{Edition}
 use Rattle.records.specs.declared.ListArray.{ListArray}
 use Rattle.records.specs.declared.ListRead.{ListRead}
 use Rattle.records.specs.declared.PlanArray.{PlanArray}
+use Rattle.records.specs.declared.RollArray.{RollArray}
 use Rattle.records.specs.declared.PlanRead.{PlanRead}
 use Rattle.records.specs.declared.Read.the-variants.{Count, Refused}
 use Rattle.records.specs.Answer.{filled, listArray, planArray, listRead, planRead}
 use Rattle.records.specs.Format.{readList}
 use Rattle.records.specs.Outcome.{Outcome, refused, passed}
-use Rattle.records.specs.Values.{Plan}
+use Rattle.records.specs.Values.{Plan, rollArray}
 use Rattle.table.specs.Table.{overlay}
 use Rattle.judge.specs.Check.{judgedFor}
 use Rattle.held_state.specs.declared.Store.{Store}
@@ -54,9 +55,9 @@ filled-length k xs z h = rw (length-append, length-replicate) (omega arith)
 
 -- ---- a list
 
--- the first n of these sites become the ones held
-pub record Fills (e : Edition) (s t : List ℕ) (c : Call) (n : ℕ) (sites : List Site) : Type 0 where
-  pub steps : step (stateIn e s t) c ≡ next (stateIn e s t) (bare n) (overlay n sites (sitesIn (e .litres) t)) (same c done)
+-- the first n of these sites become the ones held, and this roll or none
+pub record Fills (e : Edition) (s t : List ℕ) (c : Call) (n : ℕ) (sites : List Site) (roll : RollArray) : Type 0 where
+  pub steps : step (stateIn e s t) c ≡ next (stateIn e s t) (bare n roll) (overlay n sites (sitesIn (e .litres) t)) (same c done)
   pub few : n ≤ 512
   pub room : n ≤ placesIn (e .litres) t
 
@@ -77,16 +78,16 @@ module _ (e : Edition) (s t : List ℕ) (c : Call) (q : c .request ≡ Load) {r 
       ap (λ (x : List Site). x ++ drop (length (l .sites)) table)
       (sym (take-at (l .sites) (replicate (512 - length (l .sites)) noSite) (length (l .sites)) refl))
 
-  pub load-fills : {n : ℕ} → r .answer ≡ Count n → Fills e s t c n (r .list .sites)
+  pub load-fills : {n : ℕ} → r .answer ≡ Count n → Fills e s t c n (r .list .sites) (r .list .roll)
   load-fills {n} a =
       let (l, p, m, k) = list-passed found n (ap (λ (x : ListRead). x .answer) (sym read) ∙ a) in
       let g = load-read state c l q (places-are ∙ p) in
-      let is : filled 512 (l .sites) noSite ≡ r .list .sites = sym (ap (λ (x : ListRead). x .list .sites) read ∙ ap (λ (x : ListArray). x .sites) k) in
+      let list : listArray l ≡ r .list = sym (ap (λ (x : ListRead). x .list) read ∙ k) in
       let table = sitesIn (e .litres) t in
       record {
         steps =
-            g .0 ∙ ap (λ (x : List Site). next state (bare (length (l .sites))) x (same c done)) (filled-over l table)
-            ∙ ap₂ (λ (j : ℕ) (x : List Site). next state (bare j) (overlay j x table) (same c done)) m is;
+            g .0 ∙ ap (λ (x : List Site). next state (bare (length (l .sites)) (rollArray (l .roll))) x (same c done)) (filled-over l table)
+            ∙ ap₂ (λ (j : ℕ) (x : ListArray). next state (bare j (x .roll)) (overlay j (x .sites) table) (same c done)) m list;
         few = omega (arith, m, g .1);
         room = omega (arith, m, g .2, length-sites (e .litres) t);
       }
@@ -96,13 +97,13 @@ module _ (e : Edition) (s t : List ℕ) (c : Call) (q : c .request ≡ Load) {r 
 
 -- ---- a plan
 
--- a store of n sites that holds a plan
-abbrev pub written : ℕ → PlanArray → Store
-written n p = record { count = n; held = true; grouped = p .count; groups = p .groups; shares = p .shares }
+-- a store of n sites and of a roll or none that holds a plan
+abbrev pub written : ℕ → PlanArray → RollArray → Store
+written n p roll = record { count = n; held = true; grouped = p .count; groups = p .groups; shares = p .shares; roll = roll }
 
 -- the plan becomes the one held
 pub record Holds (e : Edition) (s t : List ℕ) (c : Call) (n : ℕ) (plan : PlanArray) : Type 0 where
-  pub steps : step (stateIn e s t) c ≡ next (stateIn e s t) (written n plan) (sitesIn (e .litres) t) (same c done)
+  pub steps : step (stateIn e s t) c ≡ next (stateIn e s t) (written n plan (stateIn e s t .store .roll)) (sitesIn (e .litres) t) (same c done)
   pub many : length (plan .groups) ≡ 64
   pub each : length (plan .shares) ≡ 512
 
@@ -121,7 +122,7 @@ module _ (e : Edition) (s t : List ℕ) (c : Call) (q : c .request ≡ Propose) 
       let plan : r .plan ≡ planArray p = ap (λ (x : PlanRead). x .plan) read-is ∙ d in
       let few = held-count (stateIn e s t) z .0 in
       record {
-        steps = g .0 ∙ ap₂ (λ (j : ℕ) (x : PlanArray). next (stateIn e s t) (written j x) (sitesIn (e .litres) t) (same c done)) (sym m) (sym plan);
+        steps = g .0 ∙ ap₂ (λ (j : ℕ) (x : PlanArray). next (stateIn e s t) (written j x (stateIn e s t .store .roll)) (sitesIn (e .litres) t) (same c done)) (sym m) (sym plan);
         many = ap (λ (x : PlanArray). length (x .groups)) plan ∙ filled-length 64 (p .groups) 0 (g .1);
         each = ap (λ (x : PlanArray). length (x .shares)) plan ∙ filled-length 512 (p .shares) 0 (omega (arith, g .2, few));
       }

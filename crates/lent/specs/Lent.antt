@@ -2,10 +2,12 @@
 use mathlib.Core.Path.{_≡_}
 use mathlib.Core.Bool.{Bool, true, false, cond}
 use mathlib.Core.List.{List}
+use mathlib.Core.Option.{none}
 use Prim.Native.Nat.{ℕ}
 use lib.ListN.{length}
 use Rattle.records.specs.Bytes.{Bytes}
 use Rattle.records.specs.declared.Edition.{Edition}
+use Rattle.records.specs.Values.{rollArray}
 use Rattle.store.specs.Calls.{Call, Reply, Told, refused, done, shared, loaded, differ, wrote, reached}
 use Rattle.held_state.specs.Held.{State, on}
 use Rattle.store.specs.State.{Done, bare, step}
@@ -13,11 +15,11 @@ use Rattle.layout.specs.Layout.{storeBytes, isSized, storeIn, sitesIn, tableOve
 
 -- the state that the bytes of a store and of a table stand for
 abbrev pub stateIn : Edition → List ℕ → List ℕ → State
-stateIn e s t = on e (storeIn (e .share) s) (sitesIn (e .litres) t)
+stateIn e s t = on e (storeIn (e .share) (e .roll) s) (sitesIn (e .litres) t)
 
 -- the bytes have the length of a store of the edition
 abbrev pub isOf : Edition → List ℕ → Bool
-isOf e s = isSized (e .share) s
+isOf e s = isSized (e .share) (e .roll) s
 
 -- What a call leaves: the bytes of the store and of the table, and its reply.
 pub record Lent : Type 0 where
@@ -42,7 +44,7 @@ lent s t r = record { store = s; table = t; reply = r }
 abbrev pub laid : Edition → List ℕ → List ℕ → Done → Lent
 laid e s t d =
     cond (isKept (d .reply .answer)) (lent s t (d .reply))
-    (lent (storeBytes (e .share) (d .after .store)) (tableOver (e .litres) (d .after .table) t) (d .reply))
+    (lent (storeBytes (e .share) (e .roll) (d .after .store)) (tableOver (e .litres) (d .after .table) t) (d .reply))
 
 -- a call, at bytes that have the length of a store of the edition
 abbrev pub call : Edition → List ℕ → List ℕ → Call → Lent
@@ -56,7 +58,7 @@ pub record Called (e : Edition) (s t : List ℕ) (c : Call) (answer : Told) (s' 
   pub reads : stateIn e s' t' ≡ step (stateIn e s t) c .after
   pub bytes : Bytes (c .input)
 
--- "A fresh desk has no sites, no plan, and 512 places for shares, all zero. Its 64 places for groups are zero too."
+-- "A fresh desk has no sites, no plan, and 512 places for shares, all zero. Its 64 places for groups are zero too." Document 02, g: of rolls "a fresh desk .. [has] none".
 pub record Freshened (e : Edition) (s' : List ℕ) : Type 0 where
-  pub is : s' ≡ storeBytes (e .share) (bare 0)
-  pub reads : storeIn (e .share) s' ≡ bare 0
+  pub is : s' ≡ storeBytes (e .share) (e .roll) (bare 0 (rollArray none))
+  pub reads : storeIn (e .share) (e .roll) s' ≡ bare 0 (rollArray none)

@@ -9,10 +9,13 @@ use layout::site_in;
 use layout::store_in;
 use layout_put::put_bare;
 use layout_put::put_plan;
+use layout_put::put_roll;
 use layout_put::put_site;
 use layout_put::put_sites;
 use records::Edition;
 use records::Read;
+use records::RollArray;
+use records::no_roll;
 use store::Answer;
 use store::Request;
 use store_calls::add_row;
@@ -30,17 +33,32 @@ ghost use Rattle.held_state.specs.Held.{corrupt};
 ghost use Rattle.held_state.specs.Values.{BadKnown};
 ghost use Rattle.store.specs.declared.Request.the-variants as request;
 ghost use Rattle.store.specs.Calls.{told};
+ghost use Rattle.store.specs.State.{bare};
 ghost use Rattle.store.specs.Trace.{ReadsOnly};
 ghost use Rattle.store.specs.Widths.{Named, Fitting};
 ghost use Rattle.layout.specs.Layout.{placesIn, storeIn, sitesIn};
+ghost use Rattle.layout_put.specs.Put.{PutStore};
 ghost use Rattle.lent.specs.Lent.{stateIn, isOf, Freshened, Called};
+
+// Writes a store of n sites and of a roll or none that holds no plan.
+fn put_new(e: Edition, store: &mut [u8], n: usize, roll: RollArray)
+    requires { ⌜ isOf e (now store) ≡ true ⌝ }
+    ensures { λ _. ⌜ PutStore (e .share) (e .roll) (bare n roll) (now (store .exit)) ⌝ }
+{
+    put_bare(store, e.share, n);
+    if !e.roll {
+        return;
+    }
+    put_roll(store, e.share, roll);
+}
 
 // A fresh store over its bytes.
 pub fn fresh(e: Edition, store: &mut [u8])
     requires { ⌜ isOf e (now store) ≡ true ⌝ }
     ensures { λ _. ⌜ Freshened e (now (store .exit)) ⌝ }
 {
-    put_bare(store, e.share, 0);
+    let roll = no_roll();
+    put_new(e, store, 0, roll);
 }
 
 // What a call goes by beside the sites and the plan.
@@ -59,6 +77,7 @@ pub fn summary(e: Edition, h: Header, table: &[u8]) -> Summary
 // What row 0 finds of a store and its table.
 struct Found {
     count: usize,
+    roll: RollArray,
     places: usize,
     corrupt: bool,
 }
@@ -66,15 +85,17 @@ struct Found {
 // Row 0, of the bytes.
 fn row_zero(e: Edition, store: &[u8], table: &[u8]) -> Found
     requires { ⌜ Fitting e × (isOf e (now store) ≡ true) ⌝ }
-    ensures { λ r. ⌜ (r .count ≡ storeIn (e .share) (now (store .entry)) .count) × (r .places ≡ placesIn (e .litres) (now (table .entry))) × (r .corrupt ≡ corrupt (stateIn e (now (store .entry)) (now (table .entry)))) ⌝ }
+    ensures { λ r. ⌜ (r .count ≡ storeIn (e .share) (e .roll) (now (store .entry)) .count) × (r .roll ≡ storeIn (e .share) (e .roll) (now (store .entry)) .roll) × (r .places ≡ placesIn (e .litres) (now (table .entry))) × (r .corrupt ≡ corrupt (stateIn e (now (store .entry)) (now (table .entry)))) ⌝ }
 {
     let mut groups = [0u64; 64];
     let mut shares = [0u64; 512];
-    let h = store_in(store, e.share, &mut groups, &mut shares);
-    let list = list_in(table, e.litres, h.count);
+    let h = store_in(store, e.share, e.roll, &mut groups, &mut shares);
+    let roll = h.roll;
+    let list = list_in(table, e.litres, h.count, roll);
     let known = summary(e, h, table);
     Found {
         count: h.count,
+        roll,
         places: known.places,
         corrupt: is_corrupt(list, known, &groups, &shares),
     }
@@ -91,8 +112,9 @@ pub fn load(e: Edition, store: &mut [u8], table: &mut [u8], input: &[u8]) -> Ans
         Read::Count(n) => {
             let list = read.list;
             let sites = list.sites;
+            let roll = list.roll;
             put_sites(table, e.litres, sites, n);
-            put_bare(store, e.share, n);
+            put_new(e, store, n, roll);
             Answer::Done
         }
         Read::Refused(n) => Answer::Refused(n),
@@ -133,7 +155,8 @@ pub fn add(e: Edition, store: &mut [u8], table: &mut [u8], x: Site) -> Answer
     if found.corrupt {
         return Answer::Refused(0);
     }
-    let verdict = add_row(found.count, found.places, x);
+    let roll = found.roll;
+    let verdict = add_row(found.count, found.places, roll, x);
     if let Verdict::Refused(n) = verdict {
         return Answer::Refused(n);
     }
@@ -149,8 +172,9 @@ pub fn propose(e: Edition, store: &mut [u8], table: &[u8], input: &[u8]) -> Answ
 {
     let mut groups = [0u64; 64];
     let mut shares = [0u64; 512];
-    let h = store_in(store, e.share, &mut groups, &mut shares);
-    let list = list_in(table, e.litres, h.count);
+    let h = store_in(store, e.share, e.roll, &mut groups, &mut shares);
+    let roll = h.roll;
+    let list = list_in(table, e.litres, h.count, roll);
     let known = summary(e, h, table);
     if is_corrupt(list, known, &groups, &shares) {
         return Answer::Refused(0);
@@ -174,8 +198,9 @@ pub fn look(e: Edition, store: &[u8], table: &[u8], request: Request, buffer: &m
 {
     let mut groups = [0u64; 64];
     let mut shares = [0u64; 512];
-    let h = store_in(store, e.share, &mut groups, &mut shares);
-    let list = list_in(table, e.litres, h.count);
+    let h = store_in(store, e.share, e.roll, &mut groups, &mut shares);
+    let roll = h.roll;
+    let list = list_in(table, e.litres, h.count, roll);
     let known = summary(e, h, table);
     answer(e, list, known, &groups, &shares, request, buffer)
 }

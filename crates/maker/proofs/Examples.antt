@@ -1,12 +1,13 @@
 -- T and an own site get plans that differ: Make is not "a maker with one plan for every list". Assumes nothing.
 use mathlib.Core.Path.{_≡_, refl, sym, ap, _∙_}
 use mathlib.Core.List.{List, [], _∷_}
+use mathlib.Core.Option.{none}
 use Prim.Native.Nat.{ℕ}
 use native.Mathlib.Omega.{arith}
 use lib.Dec.{T, lit<}
 use lib.ListN.{take}
 use Rattle.sets.specs.Sum.{all, any}
-use Rattle.density.specs.Network.{Listing, network, depotsInRange}
+use Rattle.density.specs.Network.{Listing, network, depotsInRange, crewsAbove, sitesUncrewed, inRange}
 use Rattle.density.specs.Groups.{groupsOf}
 use Rattle.density.specs.Rows.{firstRow}
 use Rattle.density.specs.Examples.{own, starred}
@@ -24,18 +25,18 @@ use Rattle.maker.specs.Make.{Made}
 use Rattle.maker.proofs.Made.{groups-written}
 
 abbrev sitesO : Listing
-sitesO = record { sites = own 0 7 ∷ [] }
+sitesO = record { sites = own 0 7 ∷ []; roll = none }
 
 reads-O : readList edition1 512 listOwn ≡ passed sitesO
-unfolding readList firstRow value records any
+unfolding readList firstRow value records crewsAbove sitesUncrewed any
 reads-O = refl
 
-in-range-T : T (depotsInRange T-list)
-unfolding depotsInRange all
+in-range-T : T (inRange T-list)
+unfolding inRange depotsInRange crewsAbove sitesUncrewed all any
 in-range-T = tt
 
-in-range-O : T (depotsInRange sitesO)
-unfolding depotsInRange all
+in-range-O : T (inRange sitesO)
+unfolding inRange depotsInRange crewsAbove sitesUncrewed all any
 in-range-O = tt
 
 groups-T : groupsOf (network T-list) ≡ 3 ∷ []

@@ -7,7 +7,7 @@ use Prim.Native.Nat.{ℕ, _+_, _*_, _≤_, _^_}
 use native.Mathlib.Omega.{arith}
 use lib.Dec.{T, ltb}
 use lib.ListN.{length, take}
-use Rattle.density.specs.Network.{Listing, network, noSite, depotsInRange}
+use Rattle.density.specs.Network.{Listing, network, noSite, inRange}
 use Rattle.density.specs.Groups.{groupsOf}
 use Rattle.density.specs.Plan.{TruePlan}
 use Rattle.density.proofs.Lists.{valid}
@@ -31,7 +31,7 @@ use Rattle.records.proofs.Records.{all-at}
 use Rattle.records.proofs.Buffers.{length-plan, answered}
 use Rattle.records.proofs.Files.{written-front}
 use Rattle.records.proofs.Answers.{list-counted, list-refused, listing-array}
-use Rattle.records.proofs.RoundTrip.{list-good, list-depots, list-few, laid-plan, laid-read}
+use Rattle.records.proofs.RoundTrip.{list-good, list-range, list-few, laid-plan, laid-read}
 use Rattle.readers.proofs.Editions.{marks}
 use Rattle.judge.specs.Check.{checkRow}
 use Rattle.judge.proofs.Widths.{share-fits}
@@ -47,7 +47,7 @@ made-from e s {l = l} p {n = n} out last r wide b h c m w =
     (record {
       shares = take n (p .shares);
       plan = true-plan;
-      fits = share-fits e l (groupsOf (network l)) (take n (p .shares)) wide (λ i k. all-at (Good e) noSite (l .sites) (list-good e 512 s b h) i k .fits) true-plan;
+      fits = share-fits e l (list-range e 512 s h) (groupsOf (network l)) (take n (p .shares)) wide (λ i k. all-at (Good e) noSite (l .sites) (list-good e 512 s b h) i k .fits) true-plan;
       written = subst (λ (gs : List ℕ). Written (planBytes e (record { groups = gs; shares = take n (p .shares) })) out r last) groups-are w;
     })
   where
@@ -68,10 +68,10 @@ module _ (e : Edition) (s : List ℕ) (x : ListRead) (n : ℕ) (is : x ≡ listR
       (k .0, k .1, k .2, ap (λ (y : ListRead). y .list) is ∙ k .3)
 
   -- what making a plan asks of it
-  pub in-range : (x .list .count ≤ 512) × T (depotsInRange (listing (x .list)))
+  pub in-range : (x .list .count ≤ 512) × T (inRange (listing (x .list)))
   in-range =
-      subst (λ (y : ListArray). (y .count ≤ 512) × T (depotsInRange (listing y))) (sym (found .3))
-      (list-few e 512 s (found .1) .0, subst (λ (l : Listing). T (depotsInRange l)) (sym (listing-array (found .0))) (list-depots e 512 s (found .1)))
+      subst (λ (y : ListArray). (y .count ≤ 512) × T (inRange (listing y))) (sym (found .3))
+      (list-few e 512 s (found .1) .0, subst (λ (l : Listing). T (inRange l)) (sym (listing-array (found .0))) (list-range e 512 s (found .1)))
 
   pub few-sites : n ≤ 512
   few-sites = subst (λ (k : ℕ). k ≤ 512) (found .2) (list-few e 512 s (found .1) .0)
@@ -106,7 +106,7 @@ made-laid : (e : Edition) (s out last : List ℕ) (n : ℕ) {l : Listing} → re
 unfolding network
 made-laid e s out last n {l = l} h p =
     record {
-      few = groups-few (network l) (valid l (list-depots e 512 s h)) (groupsOf (network l)) (p .plan .groups);
+      few = groups-few (network l) (valid l (list-range e 512 s h)) (groupsOf (network l)) (p .plan .groups);
       sets = p .plan .form .sets;
       each = p .plan .form .each;
       fits = p .fits;
@@ -120,7 +120,7 @@ made-passes e marks s out last n m = by-list (readList e 512 s) refl m
   where
     judge : (l : Listing) → readList e 512 s ≡ passed l → PlanWritten e l out (Length n) last → checkRow e s (take n last) ≡ none
     judge l h p =
-        rw (h, laid-read e marks l (list-few e 512 s h .0) (made-laid e s out last n h p), no-row (network l) (groupsOf (network l)) (p .shares) (valid l (list-depots e 512 s h)) (p .plan .form) .1 (p .plan))
+        rw (h, laid-read e marks l (list-few e 512 s h .0) (made-laid e s out last n h p), no-row (network l) (groupsOf (network l)) (p .shares) (valid l (list-range e 512 s h)) (p .plan .form) .1 (p .plan))
 
     by-list : (o : Outcome Listing) → readList e 512 s ≡ o → Made e o out (Length n) last → checkRow e s (take n last) ≡ none
     by-list (refused k) h p = let q = p .0 in let z : _≡_ {A = ℕ} 0 1 = cc in absurd (omega arith)

@@ -1,7 +1,7 @@
 // Make: a plan for a list, on values (`make_plan`) and on bytes (`make`).
 ghost use Prim.Native.Nat.{_*_, _≤_, _^_};
 ghost use lib.Dec.{T};
-ghost use Rattle.density.specs.Network.{depotsInRange};
+ghost use Rattle.density.specs.Network.{inRange};
 ghost use Rattle.records.specs.Values.{listing};
 ghost use Rattle.records.specs.Format.{editionOf, readList};
 ghost use Rattle.maker.specs.Planned.{Planned};
@@ -14,7 +14,7 @@ use records::Wrote;
 
 // The groups of the list, and level shares.
 pub fn make_plan(list: ListArray) -> PlanArray
-    requires { ⌜ (list .count ≤ 512) × T (depotsInRange (listing list)) ⌝ }
+    requires { ⌜ (list .count ≤ 512) × T (inRange (listing list)) ⌝ }
     ensures { λ r. ⌜ Planned list r ⌝ }
 {
     decompose::decompose(list)

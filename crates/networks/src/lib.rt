@@ -2,6 +2,7 @@
 use density::Site;
 use records::ListArray;
 use records::PlanArray;
+use records::RollArray;
 
 // How many lists `small` has: the multisets of up to 4 of 30 kinds of site.
 pub const SMALL: usize = 46376;
@@ -15,6 +16,10 @@ pub fn no_sites() -> ListArray {
             second: 0,
             litres: 0,
         }; 512],
+        roll: RollArray {
+            there: false,
+            crews: [0; 64],
+        },
     }
 }
 
@@ -22,6 +27,7 @@ pub fn no_sites() -> ListArray {
 pub fn with_site(list: ListArray, first: u8, second: u8, litres: u32) -> ListArray {
     let at = list.count;
     let mut sites = list.sites;
+    let roll = list.roll;
     if at < 512 {
         sites[at] = Site {
             first,
@@ -31,9 +37,20 @@ pub fn with_site(list: ListArray, first: u8, second: u8, litres: u32) -> ListArr
         return ListArray {
             count: at + 1,
             sites,
+            roll,
         };
     }
     list
+}
+
+// The list with a roll.
+pub fn with_crews(list: ListArray, crews: [u8; 64]) -> ListArray {
+    let sites = list.sites;
+    ListArray {
+        count: list.count,
+        sites,
+        roll: RollArray { there: true, crews },
+    }
 }
 
 // The plan without groups, all shares 0.
@@ -209,6 +226,26 @@ pub fn random(seed: u64, k: u64) -> ListArray {
         }
     }
     list
+}
+
+// The crews of a depot in the k-th pseudo-random roll: 1 to 9, often the same.
+fn some_crews(x: u64) -> u8 {
+    match below(x, 4) {
+        0 => 1,
+        1 => 9,
+        _ => byte(std::num::wrapping_add_u64(below(next(x), 9), 1)),
+    }
+}
+
+// The list with the k-th pseudo-random roll of a seed: 1 to 9 crews at depots 0 to 11, and none at the others.
+pub fn rolled(list: ListArray, seed: u64, k: u64) -> ListArray {
+    let mut x = start(seed, k);
+    let mut crews = [0u8; 64];
+    for d in 0..12 {
+        x = next(next(x));
+        crews[d] = some_crews(x);
+    }
+    with_crews(list, crews)
 }
 
 // The group at place p, empty where the plan has none.

@@ -1,4 +1,4 @@
-// Reads a list of either edition on standard input, at most 4,101 bytes, makes a plan, and prints it for a person to read: its groups, and what each depot brings to each site.
+// Reads a list of either edition on standard input, at most 4,167 bytes, makes a plan, and prints it for a person to read: its groups, and what each depot brings to each site.
 // Of a list that is refused it prints the row and what it means.
 use figures::Figures;
 use libc::STDIN_FILENO;
@@ -67,31 +67,36 @@ fn print_depots(set: u64) {
 }
 
 // Prints the depots of a group, and the verb.
-fn print_carriers(size: u64, depots: u64) {
-    word(size, b"depot ", b"depots ");
+fn print_carriers(depots: u64) {
+    let n = sets::size(depots);
+    word(n, b"depot ", b"depots ");
     print_depots(depots);
-    word(size, b"carries ", b"carry ");
+    word(n, b"carries ", b"carry ");
 }
 
-// Prints what each depot of a group of several carries.
-fn print_each(litres: u64, size: u64)
+// Prints what each depot of a group of several carries or, of a list with a roll, each crew.
+fn print_each(litres: u64, size: u64, rolled: bool)
     requires { ⌜ 0 < size ⌝ }
 {
     if size != 1 {
         print(b", ");
         print_mixed(litres, size);
-        print(b" each");
+        if rolled {
+            print(b" per crew");
+        } else {
+            print(b" each");
+        }
     }
 }
 
-fn print_group(k: usize, x: GroupLine)
+fn print_group(k: usize, x: GroupLine, rolled: bool)
     requires { ⌜ (k < 64) × (0 < x .size) ⌝ }
 {
     print(b"group ");
     number(k as u64 + 1, b": ");
-    print_carriers(x.size, x.depots);
+    print_carriers(x.depots);
     print_litres(x.litres);
-    print_each(x.litres, x.size);
+    print_each(x.litres, x.size, rolled);
     print(b"\n");
 }
 
@@ -137,7 +142,7 @@ fn print_groups(x: Figures)
 {
     let mut k: usize = 0;
     while k < x.plan.count {
-        print_group(k, lines::group_line(x, k));
+        print_group(k, lines::group_line(x, k), x.list.roll.there);
         k += 1;
     }
 }
@@ -180,7 +185,7 @@ fn print_head_row(row: u8) {
     explain(
         row,
         3,
-        b"the list's length is not 4 + 6 x sites, or 4 + 8 x sites if it begins with 4C 32\n",
+        b"the list's length is not 4 + 6 x sites or, if it begins with 4C 32, 4 + 8 x sites or 66 more with a roll\n",
     );
 }
 
@@ -189,10 +194,20 @@ fn print_site_row(row: u8) {
     explain(
         row,
         4,
-        b"a site does not begin with 53 54, or with 53 32 if the list begins with 4C 32\n",
+        b"a site does not begin with 53 54 or, if the list begins with 4C 32, with 53 32; or its roll does not begin with 44 52\n",
     );
     explain(row, 5, b"a site names a depot above 63\n");
     explain(row, 6, b"a site has 0 litres\n");
+}
+
+// Prints what a row of a list's roll means.
+fn print_roll_row(row: u8) {
+    explain(row, 22, b"a depot has more than 9 crews in the roll\n");
+    explain(
+        row,
+        23,
+        b"a site names a depot that has no crew in the roll\n",
+    );
 }
 
 // Prints the row that refuses a list, and what it means.
@@ -201,6 +216,7 @@ fn print_refusal(row: u8) {
     number(row as u64, b": ");
     print_head_row(row);
     print_site_row(row);
+    print_roll_row(row);
 }
 
 // Prints what the program says of a list.
@@ -214,7 +230,7 @@ fn show(input: &[u8]) {
 }
 
 fn main() {
-    let mut buf = [0u8; 4101];
+    let mut buf = [0u8; 4167];
     let n = io::read_full(STDIN_FILENO, &mut buf);
     show(&buf[..n]);
 }

@@ -13,7 +13,7 @@ use Rattle.records.specs.Bytes.{Bytes, le, value, field}
 use Rattle.records.specs.Format.{edition1, edition2, editionOf, readList, readPlan}
 use Rattle.records.specs.Outcome.{passed}
 use Rattle.records.specs.Values.{Plan}
-use Rattle.records.specs.Write.{listBytes, planBytes, All, Good, Marked}
+use Rattle.records.specs.Write.{listBytes, planBytes, All, Good, Marked, Crewed}
 use Rattle.records.proofs.RoundTrip.{list-read, list-back, list-again, plan-again}
 use Rattle.records.proofs.Samples.{marked1, marked2}
 
@@ -57,10 +57,10 @@ marks = either Marked marked1 marked2
 
 -- the round trips at either edition: what is written is read back, and what was read is written again
 pub lists-there : (l : Listing) → length (l .sites) ≤ 512
-    → (All (Good edition1) (l .sites) → readList (editionOf (listBytes edition1 l)) 512 (listBytes edition1 l) ≡ passed l)
-    × (All (Good edition2) (l .sites) → readList (editionOf (listBytes edition2 l)) 512 (listBytes edition2 l) ≡ passed l)
+    → (Crewed edition1 l → All (Good edition1) (l .sites) → readList (editionOf (listBytes edition1 l)) 512 (listBytes edition1 l) ≡ passed l)
+    × (Crewed edition2 l → All (Good edition2) (l .sites) → readList (editionOf (listBytes edition2 l)) 512 (listBytes edition2 l) ≡ passed l)
 unfolding listBytes le value
-lists-there l few = (list-back edition1 marked1 l few 512 few, list-back edition2 marked2 l few 512 few)
+lists-there l few = (λ c. list-back edition1 marked1 l few c 512 few, λ c. list-back edition2 marked2 l few c 512 few)
 
 pub list-and-back : (s : List ℕ) {l : Listing} → Bytes s → readList (editionOf s) 512 s ≡ passed l → listBytes (editionOf s) l ≡ s
 list-and-back s = list-again (editionOf s) 512 s

@@ -1,19 +1,26 @@
 -- What a head says of the whole list or plan. Assumes nothing.
 use Prim.Native.Nat.{ℕ, zero, suc, _+_, _*_, _≤_}
-use mathlib.Core.Bool.{Bool, true, false, _||_}
+use mathlib.Core.Bool.{Bool, true, false, cond, _&&_, _||_}
+use mathlib.Core.Option.{none, some}
 use mathlib.Core.List.{List, [], _∷_}
-use mathlib.Core.Path.{_≡_, refl, _∙_}
+use mathlib.Core.Path.{_≡_, refl, ap, sym, _∙_}
+use native.Mathlib.Nat.{mul-le-mul-right}
 use native.Mathlib.Omega.{arith}
 use borrow.Author.Tests.{ltb-false, eqb-true, not-false}
-use lib.Dec.{ltb}
+use lib.Dec.{ltb, eqb}
 use lib.ListN.{length, take, drop}
 use Rattle.density.specs.Rows.{Row, row, firstRow}
 use Rattle.records.specs.declared.Edition.{Edition}
 use Rattle.records.specs.declared.Read.the-variants.{Count, Refused}
 use Rattle.records.specs.Record.{anyOf, wrongMark}
+use Rattle.sets.proofs.Test.{fails}
+use Rattle.records.specs.declared.RollRead.{RollRead}
+use Rattle.records.specs.Values.{rollArray}
+use Rattle.records.specs.Answer.{rollAt, rollRead}
 use Rattle.records.specs.Outcome.{Outcome, refused, passed, gate}
-use Rattle.records.specs.Format.{listRows, layoutRows, siteSize, siteCount, sitesOf, readList, groupCount, groupRecords, shareSize, shareRecords, planOf, readPlan}
+use Rattle.records.specs.Format.{listSize, rolled, rollRecord, listingOf, listRows, layoutRows, siteCount, readList, groupCount, groupRecords, shareSize, shareRecords, planOf, readPlan}
 use Rattle.records.proofs.Outcomes.{Clear, clear, or-false}
+use Rattle.records.proofs.RoundTrip.{list-size}
 use Rattle.readers.specs.Head.{headRead, listHead, planHead}
 
 counted : (o : Outcome ℕ) {n : ℕ} → Count n ≡ headRead o → o ≡ passed n
@@ -42,8 +49,9 @@ others-left (suc k) (row m t ∷ rows) b h = rw (h .0) (others-left k rows b (h 
 pub record ListHeaded (e : Edition) (places : ℕ) (s : List ℕ) (n : ℕ) : Type 0 where
   pub count : siteCount s ≡ n
   pub few : n ≤ 512
-  pub size : length s ≡ 4 + siteSize e * n
-  pub rest : readList e places s ≡ gate (drop 3 (listRows e places s)) (record { sites = sitesOf e s })
+  pub fits : (eqb (length s) (listSize e (siteCount s)) || rolled e s) ≡ true
+  pub size : listSize e n ≤ length s
+  pub rest : readList e places s ≡ gate (drop 3 (listRows e places s)) (listingOf e s)
 
 pub list-headed : (e : Edition) (places : ℕ) (s : List ℕ) {n : ℕ} → Count n ≡ listHead e places s → ListHeaded e places s n
 unfolding readList
@@ -53,13 +61,41 @@ list-headed e places s h =
     record {
       count = c .1;
       few = omega (arith, c .1, ltb-false 512 (siteCount s) (many .0));
-      size = rw (← (c .1)) (eqb-true _ _ (not-false _ (c .0 .1 .1 .0)));
-      rest = others-left 3 (listRows e places s) (record { sites = sitesOf e s }) (c .0);
+      fits = not-false _ (c .0 .1 .1 .0);
+      size = rw (← (c .1)) (list-size e s (not-false _ (c .0 .1 .1 .0)));
+      rest = others-left 3 (listRows e places s) (listingOf e s) (c .0);
     }
 
 pub list-head-refused : (e : Edition) (places : ℕ) (s : List ℕ) {n : ℕ} → Refused n ≡ listHead e places s → readList e places s ≡ refused n
 unfolding readList
-list-head-refused e places s h = first-refuses 3 (listRows e places s) (siteCount s) (record { sites = sitesOf e s }) (refuses (gate (take 3 (listRows e places s)) (siteCount s)) h)
+list-head-refused e places s h = first-refuses 3 (listRows e places s) (siteCount s) (listingOf e s) (refuses (gate (take 3 (listRows e places s)) (siteCount s)) h)
+
+-- the records of at most 512 sites have at most 4,096 bytes
+pub sites-small : {w n : ℕ} → w ≤ 4 → n ≤ 512 → (4 + w) * n ≤ 4096
+sites-small {w = w} {n = n} l k =
+    let each : 4 + w ≤ 8 = omega arith in
+    omega (arith, mul-le-mul-right n each)
+
+-- what stands behind the sites: a roll where the length tells of one, or none
+module _ (e : Edition) (s : List ℕ) (n : ℕ) (q : siteCount s ≡ n) where
+  told : {b : Bool} → (e .roll && eqb (length s) (listSize e n + 66)) ≡ b → rolled e s ≡ b
+  told h = ap (λ (k : ℕ). e .roll && eqb (length s) (listSize e k + 66)) q ∙ h
+
+  pub roll-some : (e .roll && eqb (length s) (listSize e n + 66)) ≡ true → rollAt (e .mark .roll) (drop (listSize e n) s) ≡ rollRead e s
+  roll-some h = ap (λ (k : ℕ). rollAt (e .mark .roll) (drop (listSize e k) s)) (sym q) ∙ by (rolled e s) (told h)
+    where
+      by : (b : Bool) → b ≡ true → rollAt (e .mark .roll) (rollRecord e s)
+          ≡ record { mark = b && wrongMark (e .mark .roll) (rollRecord e s); roll = rollArray (cond b (some (drop 2 (rollRecord e s))) none) }
+      by true z = refl
+      by false z = absurd (fails true (sym z) tt)
+
+  pub roll-none : (e .roll && eqb (length s) (listSize e n + 66)) ≡ false → _≡_ {A = RollRead} (record { mark = false; roll = rollArray none }) (rollRead e s)
+  roll-none h = by (rolled e s) (told h)
+    where
+      by : (b : Bool) → b ≡ false → _≡_ {A = RollRead} (record { mark = false; roll = rollArray none })
+          (record { mark = b && wrongMark (e .mark .roll) (rollRecord e s); roll = rollArray (cond b (some (drop 2 (rollRecord e s))) none) })
+      by true z = absurd (fails true z tt)
+      by false z = refl
 
 -- the same of a plan's head
 pub record PlanHeaded (e : Edition) (sites : ℕ) (s : List ℕ) (n : ℕ) : Type 0 where

@@ -5,17 +5,24 @@ use records::Edition;
 use records::ListArray;
 use records::ListRead;
 use records::Read;
+use records::RollArray;
+use records::RollRead;
 use records::SitesRead;
 use records::Step;
+use records::roll;
 use records::scan;
 use scanner::End;
 ghost use mathlib.Core.Path.{_≡_};
+ghost use mathlib.Core.Bool.{_&&_};
 ghost use Prim.Native.Nat.{ℕ, _<_, _≤_, _+_, _*_, _^_};
-ghost use lib.ListN.{length, getD};
-ghost use Rattle.density.specs.Network.{noSite};
-ghost use Rattle.records.specs.Answer.{sitesRead, listRead};
+ghost use lib.Dec.{eqb};
+ghost use lib.ListN.{length, drop, getD};
+ghost use Rattle.sets.specs.Sum.{any};
+ghost use Rattle.density.specs.Network.{noSite, uncrewed};
+ghost use Rattle.records.specs.Values.{rollIn};
+ghost use Rattle.records.specs.Answer.{sitesRead, rollAt, rollRead, listRead};
 ghost use Rattle.records.specs.Outcome.{refused};
-ghost use Rattle.records.specs.Format.{siteSize, readList};
+ghost use Rattle.records.specs.Format.{siteSize, siteCount, listSize, readList};
 ghost use Rattle.scanner.specs.Scan.{AllRead};
 ghost use Rattle.readers.specs.Head.{listHead};
 ghost use Rattle.readers.specs.Body.{siteBody, siteBodies};
@@ -126,14 +133,54 @@ pub fn no_list(n: u8) -> ListRead
     ensures { λ r. ⌜ r ≡ listRead (refused n) ⌝ }
 {
     let none = no_site();
+    let roll = records::no_roll();
     let list = ListArray {
         count: 0,
         sites: [none; 512],
+        roll,
     };
     ListRead {
         answer: Read::Refused(n),
         list,
     }
+}
+
+// Does a roll follow the `n` sites of a list? Its 66 bytes show in the length.
+fn is_rolled(e: Edition, n: usize, len: usize) -> bool
+    requires { ⌜ (e .litres ≤ 4) × (n ≤ 512) ⌝ }
+    ensures { λ r. ⌜ r ≡ (e .roll && eqb len (listSize e n + 66)) ⌝ }
+{
+    let end = 4 + (4 + e.litres) * n + 66;
+    if e.roll {
+        return len == end;
+    }
+    false
+}
+
+// The roll's record at a place of `s`, where its mark is m.
+fn roll_at(m: u64, s: &[u8], at: usize) -> RollRead
+    requires { ⌜ length (now s) ≡ at + 66 ⌝ }
+    ensures { λ r. ⌜ r ≡ rollAt m (drop at (now (s .entry))) ⌝ }
+{
+    let r = scanner::record_at(s, at, 0, m, false);
+    let crews = roll::bytes_at(s, r.next);
+    let roll = RollArray { there: true, crews };
+    RollRead {
+        mark: r.wrong,
+        roll,
+    }
+}
+
+// The roll behind the `n` sites of a list, or none.
+fn roll_of(e: Edition, n: usize, s: &[u8]) -> RollRead
+    requires { ⌜ (e .litres ≤ 4) × (n ≤ 512) × (siteCount (now s) ≡ n) ⌝ }
+    ensures { λ r. ⌜ r ≡ rollRead e (now (s .entry)) ⌝ }
+{
+    if is_rolled(e, n, s.len()) {
+        return roll_at(e.mark.roll, s, 4 + (4 + e.litres) * n);
+    }
+    let roll = records::no_roll();
+    RollRead { mark: false, roll }
 }
 
 // The site count of a list's head, or the row of 1 to 3 that refuses.
@@ -152,10 +199,22 @@ fn head(e: Edition, places: usize, s: &[u8]) -> Read
         return Read::Refused(2);
     }
     let size = 4 + e.litres;
-    if s.len() != 4 + size * n {
-        return Read::Refused(3);
+    if scan::either(s.len() == 4 + size * n, is_rolled(e, n, s.len())) {
+        return Read::Count(n);
     }
-    Read::Count(n)
+    Read::Refused(3)
+}
+
+// Row 23, of the first `n` sites read. Without a roll none is looked at, and none is copied.
+fn is_any_uncrewed(roll: RollArray, r: SitesRead, n: usize) -> bool
+    requires { ⌜ n ≤ 512 ⌝ }
+    ensures { λ b. ⌜ b ≡ any (λ i. uncrewed (rollIn roll) (getD (r .sites) i noSite)) n ⌝ }
+{
+    if !roll.there {
+        return false;
+    }
+    let sites = r.sites;
+    roll::any_uncrewed(roll, sites, n)
 }
 
 // Reads a list for which there are `places` places.
@@ -168,7 +227,8 @@ pub fn read(e: Edition, places: usize, s: &[u8]) -> ListRead
         Read::Refused(row) => return no_list(row),
     };
     let r = sites(e, n, s);
-    if r.marks {
+    let k = roll_of(e, n, s);
+    if scan::either(r.marks, k.mark) {
         return no_list(4);
     }
     if r.depots {
@@ -177,8 +237,19 @@ pub fn read(e: Edition, places: usize, s: &[u8]) -> ListRead
     if r.litres {
         return no_list(6);
     }
+    let roll = k.roll;
+    if roll::is_above(roll) {
+        return no_list(22);
+    }
+    if is_any_uncrewed(roll, r, n) {
+        return no_list(23);
+    }
     let sites = r.sites;
-    let list = ListArray { count: n, sites };
+    let list = ListArray {
+        count: n,
+        sites,
+        roll,
+    };
     ListRead {
         answer: Read::Count(n),
         list,

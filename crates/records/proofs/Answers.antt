@@ -1,22 +1,23 @@
 -- What a reader's answer says, for its callers. Assumes nothing.
 use Prim.Native.Nat.{ℕ, _≤_}
 use mathlib.Core.List.{List}
+use mathlib.Core.Option.{Option, none, some}
 use mathlib.Core.Path.{_≡_, refl, sym, ap, _∙_, subst}
 use native.Mathlib.Omega.{arith}
 use lib.Dec.{T}
 use lib.ListN.{length}
 use lib.Seq.{take-append-seam}
-use Rattle.density.specs.Network.{Listing, depotsInRange}
+use Rattle.density.specs.Network.{Listing, inRange}
 use Rattle.records.specs.declared.Edition.{Edition}
 use Rattle.records.specs.declared.ListArray.{ListArray}
 use Rattle.records.specs.declared.ListRead.{ListRead}
 use Rattle.records.specs.declared.PlanRead.{PlanRead}
 use Rattle.records.specs.declared.Read.the-variants.{Count, Refused}
-use Rattle.records.specs.Values.{Plan, listing, planIn}
+use Rattle.records.specs.Values.{Plan, rollIn, rollArray, listing, planIn}
 use Rattle.records.specs.Outcome.{Outcome, refused, passed}
 use Rattle.records.specs.Answer.{listArray, planArray, listRead, planRead}
 use Rattle.records.specs.Format.{readList}
-use Rattle.records.proofs.RoundTrip.{list-few, list-depots}
+use Rattle.records.proofs.RoundTrip.{list-few, list-range}
 
 -- a count: something was read, and the value is it
 pub list-counted : (o : Outcome Listing) {n : ℕ} → Count n ≡ listRead o .answer
@@ -39,8 +40,12 @@ plan-refused (refused k) h = cc
 plan-refused (passed p) h = let z : _≡_ {A = ℕ} 0 1 = cc in absurd (omega arith)
 
 -- what the arrays hold
+pub roll-array : (o : Option (List ℕ)) → rollIn (rollArray o) ≡ o
+roll-array none = refl
+roll-array (some roll) = refl
+
 pub listing-array : (l : Listing) → listing (listArray l) ≡ l
-listing-array l = rw take-append-seam
+listing-array l = rw (take-append-seam, roll-array)
 
 pub plan-array : (p : Plan) → planIn (planArray p) (length (p .shares)) ≡ p
 plan-array p = rw (take-append-seam, take-append-seam)
@@ -64,8 +69,8 @@ module _ (o : Outcome Listing) {x : ListRead} {n : ℕ} (is : x ≡ listRead o) 
     pub array-few : x .list .count ≤ 512
     array-few = subst (λ k. k ≤ 512) list-sized (list-few e 512 s (reads (listing (x .list)) list-is) .0)
 
-    pub array-range : T (depotsInRange (listing (x .list)))
-    array-range = list-depots e 512 s (reads (listing (x .list)) list-is)
+    pub array-range : T (inRange (listing (x .list)))
+    array-range = list-range e 512 s (reads (listing (x .list)) list-is)
 
 pub list-refused-by : (o : Outcome Listing) {x : ListRead} {n : ℕ} → x ≡ listRead o → x .answer ≡ Refused n → o ≡ refused n
 list-refused-by o is h = list-refused o (sym h ∙ ap (λ (y : ListRead). y .answer) is)

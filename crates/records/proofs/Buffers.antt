@@ -13,8 +13,8 @@ use borrow.Rule.Slice.PartMut.{putMid}
 use Rattle.records.specs.Bytes.{le}
 use Rattle.records.specs.Values.{Plan}
 use Rattle.records.specs.Outcome.{gate}
-use Rattle.records.specs.Format.{siteSize}
-use Rattle.records.specs.Write.{place, onto, markBytes, siteBytes, listBytes, planBytes, isShort, wroteOf, Written}
+use Rattle.records.specs.Format.{siteSize, listSize}
+use Rattle.records.specs.Write.{place, onto, markBytes, siteBytes, rollBytes, listBytes, planBytes, isShort, wroteOf, Written}
 use Rattle.density.specs.declared.Site.{Site}
 use Rattle.density.specs.Network.{Listing}
 use Rattle.density.specs.Rows.{row, firstRow}
@@ -164,12 +164,12 @@ length-plan e p =
     )
     (omega arith)
 
-pub length-list : (e : Edition) (l : Listing) → length (listBytes e l) ≡ 4 + siteSize e * length (l .sites)
+pub length-list : (e : Edition) (l : Listing) → length (listBytes e l) ≡ listSize e (length (l .sites)) + length (rollBytes e (l .roll))
 unfolding listBytes
 length-list e l = simp (length-append, length-le, length-flat (siteBytes e) (siteSize e) (length-site e)) (omega arith)
 
 -- a list's bytes, as they are written
 pub list-front : (e : Edition) (l : Listing) {k n : ℕ} {d out : List ℕ} → length (l .sites) ≡ k
-    → Front ((([] ++ le 2 (e .mark .list)) ++ le 2 k) ++ flatMap (siteBytes e) (l .sites)) d out n → Front (listBytes e l) d out n
+    → Front (((([] ++ le 2 (e .mark .list)) ++ le 2 k) ++ flatMap (siteBytes e) (l .sites)) ++ rollBytes e (l .roll)) d out n → Front (listBytes e l) d out n
 unfolding listBytes
 list-front e l h f = rw h (simp append-assoc at f)

@@ -7,3 +7,4 @@ pub mod RoundTrip
 pub mod Files
 pub mod Samples
 pub mod Answers
+pub mod Rolls

@@ -1,29 +1,36 @@
 -- A list and a plan that were written are read back, and what was read is written again, byte for byte, over the edition; what passed says. Assumes nothing.
 use Prim.Native.Nat.{ℕ, _+_, _*_, _<_, _≤_, _^_}
-use mathlib.Core.Bool.{false, _&&_}
+use mathlib.Core.Bool.{Bool, true, false, cond, not, _&&_, _||_, and-false, or-true}
 use mathlib.Core.List.{List, _++_, flatMap, map}
+use mathlib.Core.Logic.{⊎-elim}
+use mathlib.Core.Option.{Option, none, some}
 use mathlib.Core.Path.{_≡_, refl, ap, sym, _∙_}
 use borrow.Author.Tests.{lt-ltb, eq-eqb, ne-eqb, le-ltb, eqb-true, ltb-false, eqb-false, not-false}
-use lib.Dec.{T, ltb}
-use lib.ListN.{length, drop, length-drop, length-map}
+use lib.Dec.{T, ltb, eqb, eqb→eq}
+use lib.ListN.{length, drop, length-append, length-drop, length-map, drop-of-length-le}
 use lib.Seq.{drop-at, drop-drop}
 use native.Mathlib.Omega.{arith}
 use Rattle.density.specs.declared.Site.{Site}
-use Rattle.density.specs.Network.{Listing, noSite, siteAt, depotsInRange}
-use Rattle.sets.proofs.Test.{and-i, passes}
+use Rattle.density.specs.Network.{Listing, noSite, siteAt, depotsInRange, crewsAbove, sitesUncrewed, inRange}
+use Rattle.sets.proofs.Test.{and-i, and-r, or-cases, passes, fails}
 use Rattle.sets.proofs.Sum.{all-from as each-from}
 use Rattle.records.specs.declared.Edition.{Edition}
 use Rattle.records.specs.Values.{Plan}
 use Rattle.records.specs.Bytes.{Bytes, le, field}
 use Rattle.records.specs.Record.{anyOf, wrongMark}
 use Rattle.records.specs.Outcome.{passed}
-use Rattle.records.specs.Format.{siteSize, siteCount, siteRecords, sitesOf, siteOf, wrongDepot, noLitres, listRows, readList, groupCount, groupRecords, shareRecords, shareSize, bodyOf, planOf, layoutRows, readPlan}
-use Rattle.records.specs.Write.{siteBytes, listBytes, markBytes, planBytes, LaidOut, All, Marked, Allowed, Good, GoodPlan}
+use Rattle.records.specs.Format.{siteSize, siteCount, siteRecords, sitesOf, siteOf, wrongDepot, noLitres, listSize, rolled, rollRecord, rollOf, listingOf, listRows, readList, groupCount, groupRecords, shareRecords, shareSize, bodyOf, planOf, layoutRows, readPlan}
+use Rattle.records.specs.Write.{siteBytes, rollBytes, listBytes, markBytes, planBytes, LaidOut, All, Marked, Allowed, Good, Whole, Crewed, GoodPlan}
 use Rattle.records.proofs.Bytes.{length-le, bytes-drop, field-small}
 use Rattle.records.proofs.Records.{all-from, all-at, all-map, all-both, none-of, length-records}
 use Rattle.records.proofs.Buffers.{length-flat, length-mark, length-plan, length-site, length-list}
 use Rattle.records.proofs.Outcomes.{pass, clear, or-false}
 use Rattle.records.proofs.Codec.{field-here, field-last, field-behind, le-field, le-field-last, records-flat, records-flat-last, flat-records, flat-records-last, bytes-records, any-map, map-back}
+
+-- there is a roll
+abbrev isSome : Option (List ℕ) → Bool
+isSome none = false
+isSome (some roll) = true
 
 module _ (e : Edition) (m : Marked e) where
   -- the fields of a site's record
@@ -61,32 +68,83 @@ module _ (e : Edition) (m : Marked e) where
 
     list-records : siteRecords e (listBytes e l) ≡ map (siteBytes e) (l .sites)
     unfolding listBytes le
-    list-records = rw list-count (records-flat-last (siteBytes e) (siteSize e) (length-site e) (l .sites))
+    list-records = rw list-count (records-flat (siteBytes e) (siteSize e) (length-site e) (l .sites) (rollBytes e (l .roll)))
 
-    -- a list that was written is read back
-    pub list-back : (places : ℕ) → length (l .sites) ≤ places → All (Good e) (l .sites) → readList e places (listBytes e l) ≡ passed l
-    unfolding readList
-    list-back places h good =
-        pass (listRows e places (listBytes e l)) (
-          rw (le-ltb (length (listBytes e l)) 4 (omega (arith, length-list e l)), list-mark, eq-eqb _ _ refl),
-          (
-            rw (list-count, le-ltb _ _ few, le-ltb _ _ h),
+    -- what stands behind its sites
+    list-rest : rollRecord e (listBytes e l) ≡ rollBytes e (l .roll)
+    unfolding listBytes le
+    list-rest =
+        rw list-count
+        (sym (drop-drop (siteSize e * length (l .sites)) 4 (listBytes e l))
+        ∙ drop-at (flatMap (siteBytes e) (l .sites)) (rollBytes e (l .roll)) _ (length-flat (siteBytes e) (siteSize e) (length-site e) (l .sites)))
+
+    -- its roll or none: whether there is one is told by the length
+    module _ (c : Crewed e l) where
+      list-rolled : rolled e (listBytes e l) ≡ isSome (l .roll)
+      list-rolled = rw (list-count, length-list e l) (by (l .roll) (c .whole))
+        where
+          by : (roll : Option (List ℕ)) → Whole e roll → (e .roll && eqb (listSize e (length (l .sites)) + length (rollBytes e roll)) (listSize e (length (l .sites)) + 66)) ≡ isSome roll
+          by none w = rw (ne-eqb (listSize e (length (l .sites)) + 0) (listSize e (length (l .sites)) + 66) (λ z. omega arith)) (and-false (e .roll))
+          by (some roll) w =
+              let k : length (le 2 (e .mark .roll) ++ roll) ≡ 66 = rw (length-append, length-le, w .1) in
+              rw (w .0, k, eq-eqb _ _ refl)
+
+      list-roll : rollOf e (listBytes e l) ≡ l .roll
+      list-roll = rw (list-rolled, list-rest) (by (l .roll))
+        where
+          by : (roll : Option (List ℕ)) → cond (isSome roll) (some (drop 2 (rollBytes e roll))) none ≡ roll
+          by none = refl
+          by (some roll) = ap some (drop-at (le 2 (e .mark .roll)) roll 2 (length-le 2 (e .mark .roll)))
+
+      roll-marked : (rolled e (listBytes e l) && wrongMark (e .mark .roll) (rollRecord e (listBytes e l))) ≡ false
+      roll-marked = rw (list-rolled, list-rest) (by (l .roll))
+        where
+          by : (roll : Option (List ℕ)) → (isSome roll && wrongMark (e .mark .roll) (rollBytes e roll)) ≡ false
+          by none = refl
+          by (some roll) = rw (field-here 2 (e .mark .roll) roll (m .roll), eq-eqb _ _ refl)
+
+      list-long : (eqb (length (listBytes e l)) (listSize e (siteCount (listBytes e l))) || rolled e (listBytes e l)) ≡ true
+      list-long = rw (list-rolled, list-count, length-list e l) (by (l .roll))
+        where
+          by : (roll : Option (List ℕ)) → (eqb (listSize e (length (l .sites)) + length (rollBytes e roll)) (listSize e (length (l .sites))) || isSome roll) ≡ true
+          by none = rw (eq-eqb (listSize e (length (l .sites)) + 0) (listSize e (length (l .sites))) (omega arith))
+          by (some roll) = or-true (eqb (listSize e (length (l .sites)) + length (rollBytes e (some roll))) (listSize e (length (l .sites))))
+
+      list-listing : All (Good e) (l .sites) → listingOf e (listBytes e l) ≡ l
+      list-listing good =
+          ap (λ (xs : List Site). record { sites = xs; roll = rollOf e (listBytes e l) }) (rw list-records (map-back (siteBytes e) (siteOf (e .litres)) (Good e) site-back (l .sites) good))
+          ∙ ap (λ (r : Option (List ℕ)). record { sites = l .sites; roll = r }) list-roll
+
+      -- a list that was written is read back
+      pub list-back : (places : ℕ) → length (l .sites) ≤ places → All (Good e) (l .sites) → readList e places (listBytes e l) ≡ passed l
+      unfolding readList
+      list-back places h good =
+          pass (listRows e places (listBytes e l)) (
+            rw (le-ltb (length (listBytes e l)) 4 (omega (arith, length-list e l)), list-mark, eq-eqb _ _ refl),
             (
-              rw (list-count, eq-eqb _ _ (length-list e l)),
+              rw (list-count, le-ltb _ _ few, le-ltb _ _ h),
               (
-                rw list-records (any-map (siteBytes e) (wrongMark (e .mark .site)) (Good e) (λ (x : Site) (g : Good e x). rw (site-mark x, eq-eqb _ _ refl)) (l .sites) good),
+                rw list-long,
                 (
-                  rw list-records (any-map (siteBytes e) wrongDepot (Good e) (λ (x : Site) (g : Good e x). rw (site-first x g, site-second x g, le-ltb _ _ (g .allowed .first), le-ltb _ _ (g .allowed .second))) (l .sites) good),
+                  rw roll-marked (rw list-records (rw (any-map (siteBytes e) (wrongMark (e .mark .site)) (Good e) (λ (x : Site) (g : Good e x). rw (site-mark x, eq-eqb _ _ refl)) (l .sites) good))),
                   (
-                    rw list-records (any-map (siteBytes e) (noLitres (e .litres)) (Good e) (λ (x : Site) (g : Good e x). rw (site-litres x g) (ne-eqb (x .litres) 0 (omega (arith, g .allowed .some)))) (l .sites) good),
-                    tt,
+                    rw list-records (any-map (siteBytes e) wrongDepot (Good e) (λ (x : Site) (g : Good e x). rw (site-first x g, site-second x g, le-ltb _ _ (g .allowed .first), le-ltb _ _ (g .allowed .second))) (l .sites) good),
+                    (
+                      rw list-records (any-map (siteBytes e) (noLitres (e .litres)) (Good e) (λ (x : Site) (g : Good e x). rw (site-litres x g) (ne-eqb (x .litres) 0 (omega (arith, g .allowed .some)))) (l .sites) good),
+                      (
+                        rw list-roll (c .few),
+                        (
+                          rw (list-listing good) (c .named),
+                          tt,
+                        ),
+                      ),
+                    ),
                   ),
                 ),
               ),
             ),
-          ),
-        )
-        ∙ ap (λ (xs : List Site). passed (record { sites = xs })) (rw list-records (map-back (siteBytes e) (siteOf (e .litres)) (Good e) site-back (l .sites) good))
+          )
+          ∙ ap passed (list-listing good)
 
 -- a site's record that was read is written again
 site-again : (e : Edition) (r : List ℕ) → length r ≡ siteSize e → Bytes r → wrongMark (e .mark .site) r ≡ false → siteBytes e (siteOf (e .litres) r) ≡ r
@@ -108,11 +166,15 @@ pub record ListFacts (e : Edition) (places : ℕ) (s : List ℕ) (l : Listing) :
   pub mark : field s 0 2 ≡ e .mark .list
   pub few : siteCount s ≤ 512
   pub room : siteCount s ≤ places
-  pub size : length s ≡ 4 + siteSize e * siteCount s
+  pub size : (eqb (length s) (listSize e (siteCount s)) || rolled e s) ≡ true
   pub marks : anyOf (wrongMark (e .mark .site)) (siteRecords e s) ≡ false
+  pub roll-mark : (rolled e s && wrongMark (e .mark .roll) (rollRecord e s)) ≡ false
   pub depots : anyOf (wrongDepot) (siteRecords e s) ≡ false
   pub litres : anyOf (noLitres (e .litres)) (siteRecords e s) ≡ false
+  pub few-crews : crewsAbove (l .roll) ≡ false
+  pub crewed : sitesUncrewed l ≡ false
   pub sites : sitesOf e s ≡ l .sites
+  pub roll : rollOf e s ≡ l .roll
   pub count : length (l .sites) ≡ siteCount s
 
 pub list-read : (e : Edition) (places : ℕ) (s : List ℕ) {l : Listing} → readList e places s ≡ passed l → ListFacts e places s l
@@ -125,24 +187,56 @@ list-read e places s h =
       mark = eqb-true _ _ (not-false _ (head .1));
       few = ltb-false _ _ (many .0);
       room = ltb-false _ _ (many .1);
-      size = eqb-true _ _ (not-false _ (c .0 .1 .1 .0));
-      marks = c .0 .1 .1 .1 .0;
+      size = not-false _ (c .0 .1 .1 .0);
+      marks = or-false (anyOf (wrongMark (e .mark .site)) (siteRecords e s)) _ (c .0 .1 .1 .1 .0) .0;
+      roll-mark = or-false (anyOf (wrongMark (e .mark .site)) (siteRecords e s)) _ (c .0 .1 .1 .1 .0) .1;
       depots = c .0 .1 .1 .1 .1 .0;
       litres = c .0 .1 .1 .1 .1 .1 .0;
+      few-crews = sym (ap (λ (l : Listing). crewsAbove (l .roll)) (c .1)) ∙ c .0 .1 .1 .1 .1 .1 .1 .0;
+      crewed = sym (ap sitesUncrewed (c .1)) ∙ c .0 .1 .1 .1 .1 .1 .1 .1 .0;
       sites = ap (λ (l : Listing). l .sites) (c .1);
+      roll = ap (λ (l : Listing). l .roll) (c .1);
       count = sym (ap (λ (l : Listing). length (l .sites)) (c .1)) ∙ length-map (siteRecords e s) (siteOf (e .litres)) ∙ length-records _ _ _;
     }
+
+-- where the length is right, all the sites are there
+pub list-size : (e : Edition) (s : List ℕ) → (eqb (length s) (listSize e (siteCount s)) || rolled e s) ≡ true → listSize e (siteCount s) ≤ length s
+list-size e s h =
+    ⊎-elim (λ t. let z = eqb→eq (length s) (listSize e (siteCount s)) t in omega arith)
+    (λ t. let z = eqb→eq (length s) (listSize e (siteCount s) + 66) (and-r (e .roll) _ t) in omega arith)
+    (or-cases (eqb (length s) (listSize e (siteCount s))) (rolled e s) (passes _ h))
+
+-- a roll that was read is written again
+roll-again : (e : Edition) (s : List ℕ) → Bytes s → (eqb (length s) (listSize e (siteCount s)) || rolled e s) ≡ true
+    → (rolled e s && wrongMark (e .mark .roll) (rollRecord e s)) ≡ false → rollBytes e (rollOf e s) ≡ rollRecord e s
+roll-again e s b h w = by (rolled e s) refl w
+  where
+    by : (r : Bool) → rolled e s ≡ r → (r && wrongMark (e .mark .roll) (rollRecord e s)) ≡ false → rollBytes e (cond r (some (drop 2 (rollRecord e s))) none) ≡ rollRecord e s
+    by true q w =
+        let z = eqb→eq (length s) (listSize e (siteCount s) + 66) (and-r (e .roll) _ (passes _ q)) in
+        let k : field (rollRecord e s) 0 2 ≡ e .mark .roll = eqb-true _ _ (not-false _ w) in
+        rw (← k) (le-field (rollRecord e s) 0 2 (bytes-drop (listSize e (siteCount s)) s b) (rw length-drop (omega arith)))
+    by false q w =
+        let z : length s ≡ listSize e (siteCount s) = eqb→eq _ _ (⊎-elim (λ t. t) (λ t. absurd (fails _ q t)) (or-cases (eqb (length s) (listSize e (siteCount s))) (rolled e s) (passes _ h))) in
+        sym (drop-of-length-le s {i = listSize e (siteCount s)} (omega arith))
 
 -- a list that was read is written again
 pub list-again : (e : Edition) (places : ℕ) (s : List ℕ) {l : Listing} → Bytes s → readList e places s ≡ passed l → listBytes e l ≡ s
 unfolding listBytes
-list-again e places s b h =
+list-again e places s {l = l} b h =
     let r = list-read e places s h in
-    let k = r .size in
+    let k = list-size e s (r .size) in
     let body =
-    flat-records-last (siteBytes e) (siteSize e) (siteOf (e .litres)) (wrongMark (e .mark .site)) (site-again e)
+    flat-records (siteBytes e) (siteSize e) (siteOf (e .litres)) (wrongMark (e .mark .site)) (site-again e)
     (siteCount s) (drop 4 s) (rw length-drop (omega arith)) (bytes-drop 4 s b) (none-of (wrongMark (e .mark .site)) (siteRecords e s) (r .marks)) in
-    rw (← (r .mark), r .count, ← (r .sites), body, le-field s 2 2 b (omega arith), le-field s 0 2 b (omega arith))
+    let tail = ap (rollBytes e) (sym (r .roll)) ∙ roll-again e s b (r .size) (r .roll-mark) ∙ sym (drop-drop (siteSize e * siteCount s) 4 s) in
+    let behind : flatMap (siteBytes e) (l .sites) ++ rollBytes e (l .roll) ≡ drop 4 s =
+    ap (λ (xs : List Site). flatMap (siteBytes e) xs ++ rollBytes e (l .roll)) (sym (r .sites)) ∙ ap (λ (t : List ℕ). flatMap (siteBytes e) (sitesOf e s) ++ t) tail ∙ body in
+    ap (λ (m : ℕ). le 2 m ++ (le 2 (length (l .sites)) ++ (flatMap (siteBytes e) (l .sites) ++ rollBytes e (l .roll)))) (sym (r .mark))
+    ∙ ap (λ (n : ℕ). le 2 (field s 0 2) ++ (le 2 n ++ (flatMap (siteBytes e) (l .sites) ++ rollBytes e (l .roll)))) (r .count)
+    ∙ ap (λ (t : List ℕ). le 2 (field s 0 2) ++ (le 2 (siteCount s) ++ t)) behind
+    ∙ ap (λ (t : List ℕ). le 2 (field s 0 2) ++ t) (le-field s 2 2 b (omega arith))
+    ∙ le-field s 0 2 b (omega arith)
 
 -- its sites are allowed, and where it is of bytes they are good
 list-tests : (e : Edition) (places : ℕ) (s : List ℕ) {l : Listing} → readList e places s ≡ passed l
@@ -166,7 +260,7 @@ list-good e places s b h =
     (bytes-records (siteSize e) (siteCount s) (drop 4 s) (bytes-drop 4 s b))))
 
 -- what the mathematics asks of a list that was read
-pub list-depots : (e : Edition) (places : ℕ) (s : List ℕ) {l : Listing} → readList e places s ≡ passed l → T (depotsInRange l)
+list-depots : (e : Edition) (places : ℕ) (s : List ℕ) {l : Listing} → readList e places s ≡ passed l → T (depotsInRange l)
 unfolding depotsInRange
 list-depots e places s {l = l} h =
     each-from (λ i. ltb (siteAt l i .first) 64 && ltb (siteAt l i .second) 64) (length (l .sites)) (λ i k.
@@ -174,6 +268,12 @@ list-depots e places s {l = l} h =
     and-i (ltb (siteAt l i .first) 64) (ltb (siteAt l i .second) 64)
     (passes (ltb (siteAt l i .first) 64) (lt-ltb (siteAt l i .first) 64 (omega (arith, g .first))))
     (passes (ltb (siteAt l i .second) 64) (lt-ltb (siteAt l i .second) 64 (omega (arith, g .second)))))
+
+pub list-range : (e : Edition) (places : ℕ) (s : List ℕ) {l : Listing} → readList e places s ≡ passed l → T (inRange l)
+unfolding inRange
+list-range e places s {l = l} h =
+    let r = list-read e places s h in
+    rw (r .few-crews, r .crewed) (and-i (depotsInRange l && true) true (and-i (depotsInRange l) true (list-depots e places s h) tt) tt)
 
 pub list-few : (e : Edition) (places : ℕ) (s : List ℕ) {l : Listing} → readList e places s ≡ passed l
     → (length (l .sites) ≤ 512) × (length (l .sites) ≤ places)

@@ -2,6 +2,8 @@
 use Prim.Native.Nat.{ℕ, _+_, _-_}
 use mathlib.Core.List.{List, [], _++_, map}
 use mathlib.Core.Path.{_≡_}
+use mathlib.Core.Bool.{_&&_}
+use mathlib.Core.Option.{none, some}
 use lib.ListN.{length, drop, replicate}
 use Rattle.density.specs.Network.{Listing, noSite}
 use Rattle.records.specs.declared.ListArray.{ListArray}
@@ -9,12 +11,13 @@ use Rattle.records.specs.declared.PlanArray.{PlanArray}
 use Rattle.records.specs.declared.ListRead.{ListRead}
 use Rattle.records.specs.declared.PlanRead.{PlanRead}
 use Rattle.records.specs.declared.SitesRead.{SitesRead}
+use Rattle.records.specs.declared.RollRead.{RollRead}
 use Rattle.records.specs.declared.Edition.{Edition}
 use Rattle.records.specs.declared.Read.{Read}
 use Rattle.records.specs.declared.Read.the-variants.{Count, Refused}
-use Rattle.records.specs.Values.{Plan}
+use Rattle.records.specs.Values.{Plan, rollArray}
 use Rattle.records.specs.Record.{records, anyOf, wrongMark}
-use Rattle.records.specs.Format.{siteOf, wrongDepot, noLitres}
+use Rattle.records.specs.Format.{siteOf, wrongDepot, noLitres, rolled, rollRecord, rollOf}
 use Rattle.records.specs.Outcome.{Outcome, refused, passed}
 
 -- the answer is a refusal
@@ -27,7 +30,7 @@ filled n xs z = xs ++ replicate (n - length xs) z
 
 -- a list and a plan as values: the places behind are zero
 abbrev pub listArray : Listing → ListArray
-listArray l = record { count = length (l .sites); sites = filled 512 (l .sites) noSite }
+listArray l = record { count = length (l .sites); sites = filled 512 (l .sites) noSite; roll = rollArray (l .roll) }
 
 abbrev pub planArray : Plan → PlanArray
 planArray p = record { count = length (p .groups); groups = filled 64 (p .groups) 0; shares = filled 512 (p .shares) 0 }
@@ -45,9 +48,16 @@ sitesBy m w n s =
 abbrev pub sitesRead : Edition → ℕ → List ℕ → SitesRead
 sitesRead e = sitesBy (e .mark .site) (e .litres)
 
+-- what a roll's record says, and what stands behind a list's sites says: a roll or none
+abbrev pub rollAt : ℕ → List ℕ → RollRead
+rollAt m r = record { mark = wrongMark m r; roll = rollArray (some (drop 2 r)) }
+
+abbrev pub rollRead : Edition → List ℕ → RollRead
+rollRead e s = record { mark = rolled e s && wrongMark (e .mark .roll) (rollRecord e s); roll = rollArray (rollOf e s) }
+
 -- the row that refuses and a value that is empty, or the count and the value
 abbrev pub listRead : Outcome Listing → ListRead
-listRead (refused n) = record { answer = Refused n; list = listArray (record { sites = [] }) }
+listRead (refused n) = record { answer = Refused n; list = listArray (record { sites = []; roll = none }) }
 listRead (passed l) = record { answer = Count (length (l .sites)); list = listArray l }
 
 abbrev pub planRead : Outcome Plan → PlanRead

@@ -1,11 +1,12 @@
--- Document 01, "Records and their marks" and rows 1 to 11: how a list and a plan are read, over an edition.
+-- Document 01, "Records and their marks" and rows 1 to 11, and document 02, g), rows 22 and 23: how a list and a plan are read, over an edition.
 use Prim.Native.Nat.{ℕ, _+_, _*_}
-use mathlib.Core.Bool.{Bool, not, _||_, cond}
+use mathlib.Core.Bool.{Bool, true, false, cond, not, _&&_, _||_}
 use mathlib.Core.List.{List, [], _∷_, map}
+use mathlib.Core.Option.{Option, none, some}
 use lib.ListN.{length, drop}
 use lib.Dec.{ltb, eqb}
 use Rattle.density.specs.declared.Site.{Site}
-use Rattle.density.specs.Network.{Listing}
+use Rattle.density.specs.Network.{Listing, crewsAbove, sitesUncrewed}
 use Rattle.density.specs.Rows.{Row, row}
 use Rattle.records.specs.declared.Edition.{Edition}
 use Rattle.records.specs.Values.{Plan}
@@ -13,22 +14,24 @@ use Rattle.records.specs.Bytes.{field}
 use Rattle.records.specs.Record.{records, anyOf, wrongMark}
 use Rattle.records.specs.Outcome.{Outcome, gate}
 
--- Edition 1: its marks are the bytes 4C 53, 53 54, 50 4C, 47 52 and 53 48; litres have 2 bytes and a share 4.
+-- Edition 1: its marks are the bytes 4C 53, 53 54, 50 4C, 47 52 and 53 48; litres have 2 bytes and a share 4. It has no rolls.
 abbrev pub edition1 : Edition
 edition1 =
     record {
-      mark = record { list = 0x534C; site = 0x5453; plan = 0x4C50; group = 0x5247; share = 0x4853 };
+      mark = record { list = 0x534C; site = 0x5453; plan = 0x4C50; group = 0x5247; share = 0x4853; roll = 0x5244 };
       litres = 2;
       share = 4;
+      roll = false;
     }
 
--- Document 02, c, edition 2: 4C 32, 53 32 with "litres in 4 bytes", 50 32, 47 52 as in edition 1, and 53 33 "with s in 8 bytes".
+-- Document 02, c, edition 2: 4C 32, 53 32 with "litres in 4 bytes", 50 32, 47 52 as in edition 1, and 53 33 "with s in 8 bytes"; g, rolls: 44 52.
 abbrev pub edition2 : Edition
 edition2 =
     record {
-      mark = record { list = 0x324C; site = 0x3253; plan = 0x3250; group = 0x5247; share = 0x3353 };
+      mark = record { list = 0x324C; site = 0x3253; plan = 0x3250; group = 0x5247; share = 0x3353; roll = 0x5244 };
       litres = 4;
       share = 8;
+      roll = true;
     }
 
 -- "List edition 2 begins 4C 32": the edition that the first two bytes of a list name. A list with any other mark is read as one of edition 1, whose row 1 refuses
@@ -60,19 +63,38 @@ wrongDepot r = ltb 63 (field r 2 1) || ltb 63 (field r 3 1)
 abbrev pub noLitres : ℕ → List ℕ → Bool
 noLitres w r = eqb (field r 4 w) 0
 
--- rows 1 to 6, of a list for which there are so many places
+-- the bytes of a list of n sites, without a roll
+abbrev pub listSize : Edition → ℕ → ℕ
+listSize e n = 4 + siteSize e * n
+
+-- "An edition 2 list may end in a roll: 44 52 and 64 bytes, one per depot": where the edition has rolls, 66 more bytes are one
+abbrev pub rolled : Edition → List ℕ → Bool
+rolled e s = e .roll && eqb (length s) (listSize e (siteCount s) + 66)
+
+abbrev pub rollRecord : Edition → List ℕ → List ℕ
+rollRecord e s = drop (listSize e (siteCount s)) s
+
+abbrev pub rollOf : Edition → List ℕ → Option (List ℕ)
+rollOf e s = cond (rolled e s) (some (drop 2 (rollRecord e s))) none
+
+abbrev pub listingOf : Edition → List ℕ → Listing
+listingOf e s = record { sites = sitesOf e s; roll = rollOf e s }
+
+-- rows 1 to 6, 22 and 23, of a list for which there are so many places
 abbrev pub listRows : Edition → ℕ → List ℕ → List Row
 listRows e places s =
     row 1 (ltb (length s) 4 || wrongMark (e .mark .list) s)
     ∷ row 2 (ltb 512 (siteCount s) || ltb places (siteCount s))
-    ∷ row 3 (not (eqb (length s) (4 + siteSize e * siteCount s)))
-    ∷ row 4 (anyOf (wrongMark (e .mark .site)) (siteRecords e s))
+    ∷ row 3 (not (eqb (length s) (listSize e (siteCount s)) || rolled e s))
+    ∷ row 4 (anyOf (wrongMark (e .mark .site)) (siteRecords e s) || (rolled e s && wrongMark (e .mark .roll) (rollRecord e s)))
     ∷ row 5 (anyOf wrongDepot (siteRecords e s))
     ∷ row 6 (anyOf (noLitres (e .litres)) (siteRecords e s))
+    ∷ row 22 (crewsAbove (rollOf e s))
+    ∷ row 23 (sitesUncrewed (listingOf e s))
     ∷ []
 
 unfoldable pub readList : Edition → ℕ → List ℕ → Outcome Listing
-readList e places s = gate (listRows e places s) (record { sites = sitesOf e s })
+readList e places s = gate (listRows e places s) (listingOf e s)
 
 -- "Plan: 50 4C, group count (1), site count (2). Then per group, heaviest first, 47 52 and a set (8)"
 abbrev pub groupCount : List ℕ → ℕ

@@ -1,6 +1,9 @@
--- Document 01, "Records and their marks": T and its plan, as bytes; and "Own 0 of 7" of its lists with known plans. Document 02, c: a site of 70,000 litres and its plan, in edition 2.
-use mathlib.Core.List.{List, [], _∷_}
+-- Document 01, "Records and their marks": T and its plan, as bytes; and "Own 0 of 7" of its lists with known plans. Document 02, c: a site of 70,000 litres and its plan, in edition 2; g: a list
+-- with a roll and its plan.
+use mathlib.Core.List.{List, [], _∷_, _++_}
+use mathlib.Core.Option.{none, some}
 use Prim.Native.Nat.{ℕ}
+use lib.ListN.{replicate}
 use Rattle.density.specs.Network.{Listing}
 use Rattle.records.specs.Values.{Plan}
 
@@ -21,7 +24,7 @@ listOwn = 0x4C ∷ 0x53 ∷ 0x01 ∷ 0x00 ∷ 0x53 ∷ 0x54 ∷ 0x00 ∷ 0x00 �
 
 -- one site between 0 and 1, of 70,000 litres
 abbrev pub Big : Listing
-Big = record { sites = record { first = 0; second = 1; litres = 70000 } ∷ [] }
+Big = record { sites = record { first = 0; second = 1; litres = 70000 } ∷ []; roll = none }
 
 abbrev pub listBig : List ℕ
 listBig = 0x4C ∷ 0x32 ∷ 0x01 ∷ 0x00 ∷ 0x53 ∷ 0x32 ∷ 0x00 ∷ 0x01 ∷ 0x70 ∷ 0x11 ∷ 0x01 ∷ 0x00 ∷ []
@@ -35,3 +38,21 @@ planBig =
     0x50 ∷ 0x32 ∷ 0x01 ∷ 0x01 ∷ 0x00
     ∷ 0x47 ∷ 0x52 ∷ 0x03 ∷ 0x00 ∷ 0x00 ∷ 0x00 ∷ 0x00 ∷ 0x00 ∷ 0x00 ∷ 0x00
     ∷ 0x53 ∷ 0x33 ∷ 0x70 ∷ 0x11 ∷ 0x01 ∷ 0x00 ∷ 0x00 ∷ 0x00 ∷ 0x00 ∷ 0x00 ∷ []
+
+-- one site between 0 and 1, of 12 litres, with three crews and one
+abbrev pub crewsThreeOne : List ℕ
+crewsThreeOne = 3 ∷ 1 ∷ replicate 62 0
+
+abbrev pub Rolled : Listing
+Rolled = record { sites = record { first = 0; second = 1; litres = 12 } ∷ []; roll = some crewsThreeOne }
+
+-- the list's bytes, with these bytes of a roll behind them
+abbrev pub listWith : List ℕ → List ℕ
+listWith roll = 0x4C ∷ 0x32 ∷ 0x01 ∷ 0x00 ∷ 0x53 ∷ 0x32 ∷ 0x00 ∷ 0x01 ∷ 0x0C ∷ 0x00 ∷ 0x00 ∷ 0x00 ∷ roll
+
+abbrev pub listRolled : List ℕ
+listRolled = listWith (0x44 ∷ 0x52 ∷ crewsThreeOne)
+
+-- one group of both depots with W = 12 and q = 4, and s = 36 of 48: depot 0 brings three times what depot 1 brings
+abbrev pub planOfRolled : Plan
+planOfRolled = record { groups = 3 ∷ []; shares = 36 ∷ [] }

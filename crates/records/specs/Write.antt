@@ -1,12 +1,13 @@
 -- Document 01, "Records and their marks" and row 20: how a list and a plan are written, over an edition, and what a writer leaves in a buffer.
 use Prim.Native.Nat.{ℕ, _+_, _<_, _≤_, _^_}
-use mathlib.Core.Bool.{Bool}
+use mathlib.Core.Bool.{Bool, true, false}
 use mathlib.Core.List.{List, [], _∷_, _++_, flatMap}
+use mathlib.Core.Option.{Option, none, some}
 use mathlib.Core.Path.{_≡_}
 use lib.ListN.{length, take, drop, getD}
 use lib.Dec.{ltb}
 use Rattle.density.specs.declared.Site.{Site}
-use Rattle.density.specs.Network.{Listing}
+use Rattle.density.specs.Network.{Listing, crewsAbove, sitesUncrewed}
 use Rattle.density.specs.Rows.{row}
 use Rattle.records.specs.Bytes.{le}
 use Rattle.records.specs.Values.{Plan}
@@ -22,8 +23,13 @@ markBytes mark w x = le 2 mark ++ le w x
 abbrev pub siteBytes : Edition → Site → List ℕ
 siteBytes e x = le 2 (e .mark .site) ++ (le 1 (x .first) ++ (le 1 (x .second) ++ le (e .litres) (x .litres)))
 
+-- "44 52 and 64 bytes, one per depot"
+abbrev pub rollBytes : Edition → Option (List ℕ) → List ℕ
+rollBytes e none = []
+rollBytes e (some roll) = le 2 (e .mark .roll) ++ roll
+
 unfoldable pub listBytes : Edition → Listing → List ℕ
-listBytes e l = le 2 (e .mark .list) ++ (le 2 (length (l .sites)) ++ flatMap (siteBytes e) (l .sites))
+listBytes e l = le 2 (e .mark .list) ++ (le 2 (length (l .sites)) ++ (flatMap (siteBytes e) (l .sites) ++ rollBytes e (l .roll)))
 
 unfoldable pub planBytes : Edition → Plan → List ℕ
 planBytes e p =
@@ -90,6 +96,7 @@ pub record Marked (e : Edition) : Type 0 where
   pub plan : e .mark .plan < 65536
   pub group : e .mark .group < 65536
   pub share : e .mark .share < 65536
+  pub roll : e .mark .roll < 65536
 
 -- a site that rows 5 and 6 do not refuse
 pub record Allowed (x : Site) : Type 0 where
@@ -101,6 +108,17 @@ pub record Allowed (x : Site) : Type 0 where
 pub record Good (e : Edition) (x : Site) : Type 0 where
   pub allowed : Allowed x
   pub fits : x .litres < 256 ^ e .litres
+
+-- a roll, where there is one, has a byte for each depot, and the edition has rolls
+abbrev pub Whole : Edition → Option (List ℕ) → Type 0
+Whole e none = Unit {0}
+Whole e (some roll) = (e .roll ≡ true) × (length roll ≡ 64)
+
+-- and rows 22 and 23 do not refuse the list
+pub record Crewed (e : Edition) (l : Listing) : Type 0 where
+  pub whole : Whole e (l .roll)
+  pub few : crewsAbove (l .roll) ≡ false
+  pub named : sitesUncrewed l ≡ false
 
 -- a plan has at most 64 groups and 512 shares, and its numbers have the widths of their fields
 pub record GoodPlan (e : Edition) (p : Plan) : Type 0 where

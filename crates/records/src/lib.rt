@@ -1,17 +1,27 @@
 // Lists and plans as values, and as bytes.
 use density::Site;
 ghost use mathlib.Core.Path.{_≡_};
+ghost use mathlib.Core.Option.{none};
 ghost use Rattle.records.specs.declared.Read.the-variants.{Refused};
 ghost use Rattle.records.specs.Answer.{Refuses};
 ghost use Rattle.records.specs.Format.{edition1, edition2};
+ghost use Rattle.records.specs.Values.{rollArray};
 
 pub mod number;
+pub mod roll;
 pub mod scan;
+
+// A roll as a value, or none: where it is there, the crews of each depot.
+pub struct RollArray {
+    pub there: bool,
+    pub crews: [u8; 64],
+}
 
 // A list as a value: its first `count` places are the sites.
 pub struct ListArray {
     pub count: usize,
     pub sites: [Site; 512],
+    pub roll: RollArray,
 }
 
 // A plan as a value: its first `count` places of `groups` are the sets, heaviest first; `shares` has one for each site of the list.
@@ -28,13 +38,25 @@ pub struct Marks {
     pub plan: u64,
     pub group: u64,
     pub share: u64,
+    pub roll: u64,
 }
 
-// An edition of the two formats: its marks, and the bytes of a site's litres and of a share.
+// An edition of the two formats: its marks, the bytes of a site's litres and of a share, and whether a list may end in a roll.
 pub struct Edition {
     pub mark: Marks,
     pub litres: usize,
     pub share: usize,
+    pub roll: bool,
+}
+
+// No roll.
+pub fn no_roll() -> RollArray
+    ensures { λ r. ⌜ r ≡ rollArray none ⌝ }
+{
+    RollArray {
+        there: false,
+        crews: [0u8; 64],
+    }
 }
 
 // Edition 1.
@@ -47,11 +69,13 @@ pub fn edition1() -> Edition
         plan: 0x4C50,
         group: 0x5247,
         share: 0x4853,
+        roll: 0x5244,
     };
     Edition {
         mark,
         litres: 2,
         share: 4,
+        roll: false,
     }
 }
 
@@ -65,11 +89,13 @@ pub fn edition2() -> Edition
         plan: 0x3250,
         group: 0x5247,
         share: 0x3353,
+        roll: 0x5244,
     };
     Edition {
         mark,
         litres: 4,
         share: 8,
+        roll: true,
     }
 }
 
@@ -116,6 +142,12 @@ pub enum Wrote {
 pub enum WroteBoth {
     Lengths(usize, usize),
     Refused(u8),
+}
+
+// What a roll's record says: whether its mark is wrong, and the roll; or there is none.
+pub struct RollRead {
+    pub mark: bool,
+    pub roll: RollArray,
 }
 
 // What the records of a list say: the sites, and whether a mark is wrong, a depot is above 63, or litres are 0.

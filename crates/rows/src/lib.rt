@@ -5,10 +5,10 @@ use tables::Verdict;
 ghost use mathlib.Core.Path.{_≡_};
 ghost use mathlib.Core.Bool.{true, cond, not, _||_};
 ghost use mathlib.Core.List.{List};
-ghost use Prim.Native.Nat.{ℕ, _*_, _<_};
+ghost use Prim.Native.Nat.{ℕ, _*_, _<_, _≤_, _^_};
 ghost use lib.ListN.{length, getD};
 ghost use Rattle.sets.specs.Set.{_∩_, has, setOf, isEmpty};
-ghost use Rattle.density.specs.Network.{Listing, Network, network};
+ghost use Rattle.density.specs.Network.{Network};
 ghost use Rattle.density.specs.Plan.{union, groupSize, groupLitres};
 ghost use Rattle.density.specs.Rows.{firstRow, groupsMeet, shareBroken, groupsRise};
 ghost use Rattle.tables.specs.Verdict.{verdict};
@@ -72,24 +72,26 @@ pub fn is_broken(s: Site, a: u8, b: u8, all: u64, share: u64) -> bool
     scan::either(share < least, most < share)
 }
 
-// What a depot's scaled load is to be: W of its group, for each of its crews, of which document 01 has one.
-fn level(w: u64) -> u64
-    ensures { λ r. ⌜ ((l : Listing) (d : ℕ) → r ≡ network l .crews d * w) ⌝ }
+// What a depot's scaled load is to be: W of its group, for each of its crews.
+fn level(crews: u64, w: u64) -> u64
+    requires { ⌜ (crews ≤ 9) × (w ≤ 512 * 2 ^ 32) ⌝ }
+    ensures { λ r. ⌜ r ≡ crews * w ⌝ }
 {
-    w
+    crews * w
 }
 
 // Row 15: `all` are the listed depots, `sums` the scaled loads.
-pub fn loads_uneven(all: u64, places: &[u8], litres: &[u64], sums: &[u64]) -> bool
-    requires { ⌜ (length (now places) ≡ 64) × (length (now litres) ≡ 64) × (length (now sums) ≡ 64) ⌝ }
+pub fn loads_uneven(all: u64, places: &[u8], litres: &[u64], crews: &[u64], sums: &[u64]) -> bool
+    requires { ⌜ (length (now places) ≡ 64) × (length (now litres) ≡ 64) × (length (now crews) ≡ 64) × (length (now sums) ≡ 64) ⌝ }
     requires { ⌜ ((d : ℕ) → d < 64 → has all d ≡ true → getD (now places) d 0 < 64) ⌝ }
-    ensures { λ r. ⌜ Uneven all (now (places .entry)) (now (litres .entry)) (now (sums .entry)) r ⌝ }
+    requires { ⌜ ((k : ℕ) → k < 64 → getD (now litres) k 0 ≤ 512 * 2 ^ 32) × ((d : ℕ) → d < 64 → getD (now crews) d 0 ≤ 9) ⌝ }
+    ensures { λ r. ⌜ Uneven all (now (places .entry)) (now (litres .entry)) (now (crews .entry)) (now (sums .entry)) r ⌝ }
 {
     let mut d: u8 = 0;
     while d < 64 {
         if sets::contains(all, d) {
             let w = litres[places[d as usize] as usize];
-            if sums[d as usize] != level(w) {
+            if sums[d as usize] != level(crews[d as usize], w) {
                 return true;
             }
         }

@@ -8,11 +8,11 @@ use lib.Dec.{T}
 use lib.ListN.{length, getD, set, take}
 use lib.Seq.{getD-take, take-append-seam}
 use Rattle.density.specs.declared.Site.{Site}
-use Rattle.density.specs.Network.{Listing, noSite, siteAt, depotsInRange}
+use Rattle.density.specs.Network.{Listing, noSite, siteAt, inRange}
 use Rattle.density.specs.Rows.{firstRow}
 use Rattle.records.specs.declared.Edition.{Edition}
 use Rattle.records.specs.declared.ListArray.{ListArray}
-use Rattle.records.specs.Values.{Plan, listing}
+use Rattle.records.specs.Values.{Plan, listing, rollIn, rollArray}
 use Rattle.records.specs.Format.{edition1, readList}
 use Rattle.records.specs.Outcome.{refused, passed}
 use Rattle.records.specs.Answer.{filled, planArray}
@@ -46,7 +46,7 @@ use Rattle.serve.proofs.FirstPlaces.{same-front, a-table}
 
 module _ (store : Store) (sites : List Site) (places : ℕ) where
   abbrev pub list : ListArray
-  list = record { count = store .count; sites = sites }
+  list = record { count = store .count; sites = sites; roll = store .roll }
 
   -- of every table that the values stand for
   abbrev pub AtTable : Edition → (State → Type 0) → Type 0
@@ -62,6 +62,7 @@ module _ (store : Store) (sites : List Site) (places : ℕ) where
         held = h;
         grouped = g;
         sites = λ a b. same-front sites table places y (store .count) a (omega (arith, b, p));
+        roll = refl;
         groups = λ a. refl;
         shares = λ a. refl;
       }
@@ -78,9 +79,9 @@ module _ (store : Store) (sites : List Site) (places : ℕ) where
   another x = Add (x .first) (x .second) (x .litres)
 
   abbrev pub AddRow : Site → Verdict → Type 0
-  AddRow x v = (b : Model) (c : Call) → length (b .list .sites) ≡ store .count → b .places ≡ places → v ≡ verdict (firstRow (rowsOf b c (another x)))
+  AddRow x v = (b : Model) (c : Call) → length (b .list .sites) ≡ store .count → b .places ≡ places → b .list .roll ≡ rollIn (store .roll) → v ≡ verdict (firstRow (rowsOf b c (another x)))
 
-  -- where row 0 finds nothing: the sites held are among the values, and their depots are in range
+  -- where row 0 finds nothing: the sites held are among the values, and the list is in range
   module _ (wide : length sites ≡ 512) (zero : Zero false) where
     pub few : store .count ≤ 512
     few = let (table, k, h) = a-table sites places wide in intact→ (on edition1 store table) (sym (zero edition1 table k h)) .few
@@ -91,19 +92,19 @@ module _ (store : Store) (sites : List Site) (places : ℕ) where
         omega (arith, k, intact→ (on edition1 store table) (sym (zero edition1 table k h)) .room)
 
     same-list : (e : Edition) → AtTable e (λ s. listing list ≡ listOf s)
-    same-list e table k h = ap (λ (xs : List Site). record { sites = xs }) (same-front sites table places h (store .count) few room)
+    same-list e table k h = ap (λ (xs : List Site). record { sites = xs; roll = rollIn (store .roll) }) (same-front sites table places h (store .count) few room)
 
-    pub in-range : T (depotsInRange (listing list))
+    pub in-range : T (inRange (listing list))
     in-range =
         let (table, k, h) = a-table sites places wide in
         let s = on edition1 store table in
-        subst (λ (l : Listing). T (depotsInRange l)) (sym (same-list edition1 table k h))
+        subst (λ (l : Listing). T (inRange l)) (sym (same-list edition1 table k h))
         (good-range (listOf s) (intact→ s (sym (zero edition1 table k h)) .good))
 
     -- what is granted: a change of a site that is held, another site where there is a place for it
     module _ (i w : ℕ) (v : ChangeRow i w verdict.Passes) where
       change-step : (c : Call) → c .request ≡ Change i w → (e : Edition)
-          → AtTable e (λ s. (step s c ≡ next s (bare (store .count)) (set (s .table) i (withLitres (siteAt (listOf s) i) w)) (same c done)) × (i < store .count))
+          → AtTable e (λ s. (step s c ≡ next s (bare (store .count) (store .roll)) (set (s .table) i (withLitres (siteAt (listOf s) i) w)) (same c done)) × (i < store .count))
       change-step c q e table k h =
           let s = on e store table in
           let z = sym (zero e table k h) in
@@ -117,11 +118,11 @@ module _ (store : Store) (sites : List Site) (places : ℕ) where
 
     module _ (x : Site) (v : AddRow x verdict.Passes) where
       add-step : (c : Call) → c .request ≡ another x → (e : Edition)
-          → AtTable e (λ s. (step s c ≡ next s (bare (store .count + 1)) (set (s .table) (store .count) x) (same c done)) × (store .count < 512) × (store .count < length (s .table)))
+          → AtTable e (λ s. (step s c ≡ next s (bare (store .count + 1) (store .roll)) (set (s .table) (store .count) x) (same c done)) × (store .count < 512) × (store .count < length (s .table)))
       add-step c q e table k h =
           let s = on e store table in
           let z = sym (zero e table k h) in
-          steps.add-passed s c z (x .first) (x .second) (x .litres) q (sym (v (modelOf s) c (steps.held-count s z .2) (sym k)))
+          steps.add-passed s c z (x .first) (x .second) (x .litres) q (sym (v (modelOf s) c (steps.held-count s z .2) (sym k) refl))
 
       pub add-room : (store .count < 512) × (store .count < places)
       add-room =
@@ -181,7 +182,7 @@ module _ (store : Store) (sites : List Site) (places : ℕ) where
         (λ table k h. settled.load-refused (on e store table) (call Load) n refl (subst (λ (m : ℕ). readList e m input ≡ refused n) k o))
 
     pub load-read : (l : Listing) → readList e places input ≡ passed l
-        → r ≡ record { answer = of.Done; store = bare (length (l .sites)); sites = filled 512 (l .sites) noSite; n = length (l .sites) } → Goes Load buffer
+        → r ≡ record { answer = of.Done; store = bare (length (l .sites)) (rollArray (l .roll)); sites = filled 512 (l .sites) noSite; n = length (l .sites) } → Goes Load buffer
     unfolding overlay
     load-read l o q =
         let d = list-read e places input o in
@@ -226,7 +227,7 @@ module _ (store : Store) (sites : List Site) (places : ℕ) where
             let c = call (Change i w) in
             steps.change-refused s c z i w n refl (sym (v (modelOf s) c (steps.held-count s z .2))))
 
-        pub change-made : ChangeRow i w verdict.Passes → r ≡ record { answer = of.Done; store = bare (store .count); sites = set sites i (withLitres (getD sites i noSite) w); n = store .count }
+        pub change-made : ChangeRow i w verdict.Passes → r ≡ record { answer = of.Done; store = bare (store .count) (store .roll); sites = set sites i (withLitres (getD sites i noSite) w); n = store .count }
             → Goes (Change i w) buffer
         change-made v q =
             let n : r .n ≡ store .count = ap (λ (x : Decision). x .n) q in
@@ -252,9 +253,9 @@ module _ (store : Store) (sites : List Site) (places : ℕ) where
             let s = on e store table in
             let z = sym (zero e table k h) in
             let c = call (another x) in
-            steps.add-refused s c z (x .first) (x .second) (x .litres) n refl (sym (v (modelOf s) c (steps.held-count s z .2) (sym k))))
+            steps.add-refused s c z (x .first) (x .second) (x .litres) n refl (sym (v (modelOf s) c (steps.held-count s z .2) (sym k) refl)))
 
-        pub add-made : AddRow x verdict.Passes → r ≡ record { answer = of.Done; store = bare (store .count + 1); sites = set sites (store .count) x; n = store .count + 1 }
+        pub add-made : AddRow x verdict.Passes → r ≡ record { answer = of.Done; store = bare (store .count + 1) (store .roll); sites = set sites (store .count) x; n = store .count + 1 }
             → Goes (another x) buffer
         add-made v q =
             let n : r .n ≡ store .count + 1 = ap (λ (y : Decision). y .n) q in

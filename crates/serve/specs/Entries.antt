@@ -1,11 +1,13 @@
 -- Calls of a typed entry over a lent table, one after another, for any edition: what a call is passed, what it gives back, and its contract as a step.
 use mathlib.Core.Path.{_≡_}
 use mathlib.Core.List.{List, [], _∷_}
+use mathlib.Core.Option.{none as no-roll}
 use Prim.Native.Nat.{ℕ, _^_}
 use lib.ListN.{take, drop}
 use Rattle.density.specs.declared.Site.{Site}
 use Rattle.records.specs.declared.Edition.{Edition}
 use Rattle.records.specs.Bytes.{Bytes}
+use Rattle.records.specs.Values.{rollArray}
 use Rattle.records.specs.Write.{Marked}
 use Rattle.held_state.specs.declared.Store.{Store}
 use Rattle.held_state.specs.Held.{State, on}
@@ -34,7 +36,7 @@ pub record Entry : Type 1 where
 -- What the theorems ask of it: marks of two bytes, that the fresh store is document 01's, and that figures tell stores and tables apart.
 pub record Lawful (E : Entry) : Type 0 where
   pub marked : Marked (E .edition)
-  pub is-fresh : E .figures (E .fresh) ≡ bare 0
+  pub is-fresh : E .figures (E .fresh) ≡ bare 0 (rollArray no-roll)
   pub same-store : (s s' : E .StoreType) → E .figures s ≡ E .figures s' → s ≡ s'
   pub same-table : (t t' : List (E .SiteType)) → E .sites t ≡ E .sites t' → t ≡ t'
 

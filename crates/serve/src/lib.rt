@@ -40,7 +40,7 @@ pub struct Places {
 
 // What a call goes by beside the sites and the plan.
 fn summary(store: Store, sites: [Site; 512], places: usize) -> Summary
-    ensures { λ r. ⌜ (r .places ≡ places) × (r .held ≡ store .held) × (r .grouped ≡ store .grouped) × BadKnown (record { count = store .count; sites = sites }) r ⌝ }
+    ensures { λ r. ⌜ (r .places ≡ places) × (r .held ≡ store .held) × (r .grouped ≡ store .grouped) × BadKnown (record { count = store .count; sites = sites; roll = store .roll }) r ⌝ }
 {
     let count = capacity(store.count);
     Summary {
@@ -57,7 +57,8 @@ pub fn row_zero(store: Store, sites: [Site; 512], places: usize) -> bool
 {
     let count = store.count;
     let known = summary(store, sites, places);
-    let list = ListArray { count, sites };
+    let roll = store.roll;
+    let list = ListArray { count, sites, roll };
     let groups = store.groups;
     let shares = store.shares;
     is_corrupt(list, known, &groups, &shares)
@@ -74,7 +75,8 @@ fn load(e: Edition, store: Store, sites: [Site; 512], places: usize, input: &[u8
         Read::Count(n) => {
             let list = read.list;
             let next = list.sites;
-            without_plan(next, n)
+            let roll = list.roll;
+            without_plan(roll, next, n)
         }
         Read::Refused(n) => refuse(store, sites, n),
     }
@@ -99,7 +101,8 @@ fn change(store: Store, sites: [Site; 512], places: usize, i: usize, w: u32) -> 
         second: x.second,
         litres: w,
     };
-    without_plan(next, count)
+    let roll = store.roll;
+    without_plan(roll, next, count)
 }
 
 // Adds a site at the end.
@@ -110,13 +113,14 @@ fn add(store: Store, sites: [Site; 512], places: usize, x: Site) -> Decision
         return refuse(store, sites, 0);
     }
     let count = store.count;
-    let verdict = add_row(count, places, x);
+    let roll = store.roll;
+    let verdict = add_row(count, places, roll, x);
     if let Verdict::Refused(n) = verdict {
         return refuse(store, sites, n);
     }
     let mut next = sites;
     next[count] = x;
-    without_plan(next, count + 1)
+    without_plan(roll, next, count + 1)
 }
 
 // A plan that passes becomes the one held.
@@ -128,7 +132,8 @@ fn propose(e: Edition, store: Store, sites: [Site; 512], places: usize, input: &
         return refuse(store, sites, 0);
     }
     let count = store.count;
-    let list = ListArray { count, sites };
+    let roll = store.roll;
+    let list = ListArray { count, sites, roll };
     let read = judge::plan_for(e, list, input);
     let answer = read.answer;
     if let Read::Refused(n) = answer {
@@ -152,7 +157,8 @@ fn ask(
 {
     let count = store.count;
     let known = summary(store, sites, places);
-    let list = ListArray { count, sites };
+    let roll = store.roll;
+    let list = ListArray { count, sites, roll };
     let groups = store.groups;
     let shares = store.shares;
     let answer = answer(e, list, known, &groups, &shares, request, buffer);

@@ -70,6 +70,11 @@ pub weigh-le : (c : ℕ → ℕ) (X : Depots) (k m : ℕ) → ((d : ℕ) → d <
 unfolding weigh
 weigh-le c X k m h = sum-≤ (λ d. when (X d) (c d)) m k (λ d l. le-trans (when-≤ (X d) (c d)) (h d l))
 
+-- where each depot has the weight 1, it is how many there are
+pub weigh-ones : (c : ℕ → ℕ) (X : Depots) (k : ℕ) → ((d : ℕ) → d < k → c d ≡ 1) → cardinality X k ≡ weigh c X k
+unfolding cardinality weigh
+weigh-ones c X k one = sum-cong _ _ k (λ d l. ap (when (X d)) (sym (one d l)))
+
 -- ---- a step of a loop over the depots
 
 pub weigh-start : (c : ℕ → ℕ) (X : Depots) → weigh c X 0 ≡ 0

@@ -1,8 +1,10 @@
 // Sets of depots, 0 to 63, as numbers: bit n, worth 2 to the n, stands for depot n.
 // `specs/Set.antt` says what each function means; `proofs/` has the laws.
 ghost use mathlib.Core.Path.{_≡_};
-ghost use Prim.Native.Nat.{_<_};
-ghost use Rattle.sets.specs.Set.{only, _∪_, _∩_, _∖_, has, setOf, isEmpty, cardinality, lowest};
+ghost use mathlib.Core.Bool.{true};
+ghost use Prim.Native.Nat.{ℕ, _<_, _≤_};
+ghost use lib.ListN.{length, getD};
+ghost use Rattle.sets.specs.Set.{only, _∪_, _∩_, _∖_, has, setOf, isEmpty, weigh, cardinality, lowest};
 
 // Is the depot in the set? A number from 64 on is in none.
 pub fn contains(set: u64, depot: u8) -> bool
@@ -68,4 +70,31 @@ pub fn lowest(set: u64) -> u8
     ensures { λ r. ⌜ r ≡ lowest (has set) 64 ⌝ }
 {
     u64::trailing_zeros(set) as u8
+}
+
+// The weights of the set's depots added up, from the lowest depot on.
+fn add_weights(weights: &[u64], set: u64) -> u64
+    requires { ⌜ (length (now weights) ≡ 64) × ((d : ℕ) → d < 64 → getD (now weights) d 0 ≤ 9) ⌝ }
+    ensures { λ r. ⌜ r ≡ weigh (λ d. getD (now (weights .entry)) d 0) (has set) 64 ⌝ }
+{
+    let mut total: u64 = 0;
+    let mut left = set;
+    while !is_empty(left) {
+        let d = lowest(left);
+        total = total + weights[d as usize];
+        left = without(left, single(d));
+    }
+    total
+}
+
+// The weights of the set's depots added up. Where each depot has the weight 1, as `ones` says, that is how many there are.
+pub fn weight(weights: &[u64], ones: bool, set: u64) -> u64
+    requires { ⌜ (length (now weights) ≡ 64) × ((d : ℕ) → d < 64 → getD (now weights) d 0 ≤ 9) ⌝ }
+    requires { ⌜ (ones ≡ true → (d : ℕ) → d < 64 → getD (now weights) d 0 ≡ 1) ⌝ }
+    ensures { λ r. ⌜ r ≡ weigh (λ d. getD (now (weights .entry)) d 0) (has set) 64 ⌝ }
+{
+    if ones {
+        return size(set);
+    }
+    add_weights(weights, set)
 }

@@ -1,4 +1,4 @@
--- T, two own sites of 4, two sites of one pair, thresholds, lists written out, edition 2, and T gone over to edition 2: histories with their replies, the rows of every call among them, and replies of wrong stores, which no model gives. Assumes nothing.
+-- T, two own sites of 4, two sites of one pair, thresholds, lists written out, edition 2, T gone over to edition 2, and crews: histories with their replies, the rows of every call among them, and replies of wrong stores, which no model gives. Assumes nothing.
 use mathlib.Core.Path.{_≡_, refl, sym, ap, ap₂, _∙_}
 use mathlib.Core.Logic.{inl, inr, ⊎-elim}
 use mathlib.Core.Bool.{Bool, true, _&&_}
@@ -8,13 +8,13 @@ use Prim.Native.Nat.{ℕ, zero, suc, _<_, _≤_, _*_, _^_}
 use native.Mathlib.Omega.{arith}
 use lib.Dec.{T, not-T, eqb, eqb→eq, ltb, ltb→lt, nltb→le, lit<, lit≤}
 use lib.IntN.{pos}
-use lib.ListN.{length, getD, replicate, List·getD-eq-default}
+use lib.ListN.{length, getD, take, replicate, List·getD-eq-default}
 use Rattle.sets.specs.Sum.{sum, all, any}
 use Rattle.sets.specs.Set.{has, setOf, weigh, lowest}
 use Rattle.sets.proofs.Test.{T?, and-l, and-r}
 use Rattle.sets.proofs.Sum.{all-at}
 use Rattle.density.specs.declared.Site.{Site}
-use Rattle.density.specs.Network.{Listing, Network, network, depotsInRange, size}
+use Rattle.density.specs.Network.{Listing, Network, network, depotsInRange, crewsAbove, sitesUncrewed, inRange, size}
 use Rattle.density.specs.Groups.{Decomposition}
 use Rattle.density.specs.Plan.{union, place, carrier, groupSize, groupLitres, whole, firstShare, secondShare, shareOf, target, TruePlan}
 use Rattle.density.specs.Rows.{firstRow, groupsMeet, groupsUnlisted, shareBroken, sharesBroken, scaledLoad, loadsUneven, groupsRise, planRows}
@@ -30,7 +30,7 @@ use Rattle.records.specs.Values.{Plan}
 use Rattle.records.specs.declared.Edition.{Edition}
 use Rattle.records.specs.Format.{edition1, edition2, planOf}
 use Rattle.records.specs.Write.{listBytes, planBytes, Marked}
-use Rattle.records.specs.Samples.{listT, planT, listBig, planBig}
+use Rattle.records.specs.Samples.{listT, planT, listBig, planBig, crewsThreeOne, Rolled, listWith, listRolled}
 use Rattle.records.proofs.Samples.{marked1, marked2}
 use Rattle.store.specs.declared.Request.{Request}
 use Rattle.store.specs.declared.Request.the-variants.{Load, Change, Add, Propose, Share, Depot, Difference, Written, AtLeast, ListWritten}
@@ -39,7 +39,7 @@ use Rattle.judge.specs.Check.{True}
 use Rattle.store.specs.Model.{Model, emptyModel, Proposes, Says, Follows, turned, turn, modelRows, proposalRows}
 use Rattle.held_state.specs.Held.{State}
 use Rattle.store.specs.State.{modelOf, fresh}
-use Rattle.store.specs.Examples.{call, events, reply, modelBy, model, plansT, callsT, repliesT, sitesT, loadedT, plannedT, listO, callsO, repliesO, sitesO, loadedO, plannedO, listP, planP, callsP, repliesP, sitesP, loadedP, plannedP, callsR, repliesR, listM, planM, callsM, repliesM, sitesM, loadedM, plannedM, thresholdsM, setsM, listL, callsL, repliesL, addedL, callsB, listB, repliesB, sitesB, loadedB, plannedB, addedB, listE, planE, afterE, eventsE, repliesE, overT, addedE, nth, nthBuffer}
+use Rattle.store.specs.Examples.{call, events, reply, plain, modelBy, model, plansT, callsT, repliesT, sitesT, loadedT, plannedT, listO, callsO, repliesO, sitesO, loadedO, plannedO, listP, planP, callsP, repliesP, sitesP, loadedP, plannedP, callsR, repliesR, listM, planM, callsM, repliesM, sitesM, loadedM, plannedM, thresholdsM, setsM, listL, callsL, repliesL, addedL, callsB, listB, repliesB, sitesB, loadedB, plannedB, addedB, listE, planE, afterE, eventsE, repliesE, overT, addedE, planC, listCrewed, callsC, listC, repliesC, loadedC, plannedC, addedC, unrolledC, nth, nthBuffer}
 use Rattle.store.specs.Trace.{Run, start, then, History, Modelled, AllBytes, traced, trace}
 use Rattle.store.proofs.Plans.{true-of-rows, rows-of-true}
 use Rattle.store.proofs.OneModel.{one-model}
@@ -60,9 +60,9 @@ module _ (l : Listing) (g x : List ℕ) (t : TruePlan (network l) g x) where
 -- a proposal that a row refuses
 module _ (e : Edition) (m : Marked e) (l : Listing) (p : Option Plan) (s : List ℕ) (n : ℕ) where
   abbrev b : Model
-  b = modelBy e (l .sites) p
+  b = modelBy e l p
 
-  refuses : T (depotsInRange l) → length (l .sites) ≤ 512 → firstRow (modelRows b (call Propose s [])) ≡ some n
+  refuses : T (inRange l) → length (l .sites) ≤ 512 → firstRow (modelRows b (call Propose s [])) ≡ some n
       → Proposes b (call Propose s []) (reply (refused n) []) b
   refuses ok few h =
       inr (λ q t. Option·none-ne-some n (sym (rows-of-true e l (valid l ok) s m few q t) ∙ h), n, h, refl, refl)
@@ -100,7 +100,7 @@ abbrev emptyT : Model
 emptyT = emptyModel edition1 2
 
 loads-T : turned loadedT (reply done []) ≡ turn emptyT (call Load listT [])
-unfolding firstRow value records any
+unfolding firstRow value records any crewsAbove sitesUncrewed
 loads-T = refl
 
 true-plan-T : TruePlan N (3 ∷ []) (10 ∷ [])
@@ -115,8 +115,8 @@ accepts-T = inl (record { groups = 3 ∷ []; shares = 10 ∷ [] }, laid sitesT (
     fits zero h = lit< tt
     fits (suc i) h = absurd (let z : ⊥ = omega arith in z)
 
-in-range-T : T (depotsInRange sitesT)
-unfolding depotsInRange all
+in-range-T : T (inRange sitesT)
+unfolding inRange depotsInRange crewsAbove sitesUncrewed all any
 in-range-T = tt
 
 litres-T : (d : ℕ) → groupLitres N (3 ∷ []) (place (3 ∷ []) d) ≡ depotLitres N d
@@ -161,15 +161,15 @@ modelled-T =
 -- ---- own 0 and own 1 of 4
 
 loads-O : turned loadedO (reply done []) ≡ turn emptyT (call Load listO [])
-unfolding firstRow value records any
+unfolding firstRow value records any crewsAbove sitesUncrewed
 loads-O = refl
 
 refuses-O : firstRow (modelRows loadedO (getD callsO 1 (call Load [] []))) ≡ some 16
 unfolding firstRow value records sum any has weigh size network planRows groupsMeet groupsUnlisted sharesBroken shareBroken loadsUneven scaledLoad shareOf target groupsRise place union carrier groupSize groupLitres whole firstShare secondShare
 refuses-O = refl
 
-in-range-O : T (depotsInRange sitesO)
-unfolding depotsInRange all
+in-range-O : T (inRange sitesO)
+unfolding inRange depotsInRange crewsAbove sitesUncrewed all any
 in-range-O = tt
 
 wants-O : turned loadedO (reply (refused 17) []) ≡ turn loadedO (call (Depot 0) [] [])
@@ -195,8 +195,8 @@ modelled-O =
 
 -- ---- (0,1) of 1 twice
 
-in-range-P : T (depotsInRange sitesP)
-unfolding depotsInRange all
+in-range-P : T (inRange sitesP)
+unfolding inRange depotsInRange crewsAbove sitesUncrewed all any
 in-range-P = tt
 
 -- a proposal that no row refuses
@@ -212,7 +212,7 @@ unfolding all firstRow value records sum any has weigh size network planRows gro
 true-P-0-2 = true-P (planP 0x00 0x02) tt refl
 
 loads-P : turned loadedP (reply done []) ≡ turn emptyT (call Load listP [])
-unfolding firstRow value records any
+unfolding firstRow value records any crewsAbove sitesUncrewed
 loads-P = refl
 
 accepts-P : Proposes loadedP (call Propose (planP 0x02 0x00) []) (reply done []) (plannedP 2 0)
@@ -241,7 +241,7 @@ modelled-P = next loads-P (next accepts-P (next accepts-P-again (next shares-P (
 -- ---- the rows of the calls
 
 abbrev added : Model
-added = model (pair 0 1 10 ∷ pair 0 1 1 ∷ []) none
+added = model (plain (pair 0 1 10 ∷ pair 0 1 1 ∷ [])) none
 
 -- the reply to a call that leaves the model
 abbrev Leaves : Model → Request → List ℕ → ℕ → Type 0
@@ -276,7 +276,7 @@ unfolding firstRow
 add-2 = refl
 
 loads-again : turned loadedT (reply done []) ≡ turn added (call Load listT [])
-unfolding firstRow value records any
+unfolding firstRow value records any crewsAbove sitesUncrewed
 loads-again = refl
 
 share-18 : Leaves plannedT (Share 1) [] 18
@@ -308,7 +308,7 @@ modelled-R =
 -- ---- thresholds
 
 loads-M : turned loadedM (reply done []) ≡ turn emptyT (call Load listM [])
-unfolding firstRow value records any
+unfolding firstRow value records any crewsAbove sitesUncrewed
 loads-M = refl
 
 wants-M : Leaves loadedM (AtLeast 0) [] 17
@@ -328,8 +328,8 @@ accepts-M = inl (record { groups = 3 ∷ 4 ∷ []; shares = 9 ∷ 0 ∷ [] }, la
     fits (suc zero) h = lit< tt
     fits (suc (suc i)) h = absurd (let z : ⊥ = omega arith in z)
 
-in-range-M : T (depotsInRange sitesM)
-unfolding depotsInRange all
+in-range-M : T (inRange sitesM)
+unfolding inRange depotsInRange crewsAbove sitesUncrewed all any
 in-range-M = tt
 
 -- the model's answer to a threshold, by the groups of the plan
@@ -402,17 +402,17 @@ modelled-L =
 abbrev emptyB : Model
 emptyB = emptyModel edition2 2
 
-in-range-B : T (depotsInRange sitesB)
-unfolding depotsInRange all
+in-range-B : T (inRange sitesB)
+unfolding inRange depotsInRange crewsAbove sitesUncrewed all any
 in-range-B = tt
 
 -- its list is of the other edition
 load-1 : turned emptyB (reply (refused 1) []) ≡ turn emptyB (call Load listT [])
-unfolding firstRow value records any
+unfolding firstRow value records any crewsAbove sitesUncrewed
 load-1 = refl
 
 loads-B : turned loadedB (reply done []) ≡ turn emptyB (call Load listBig [])
-unfolding firstRow value records any
+unfolding firstRow value records any crewsAbove sitesUncrewed
 loads-B = refl
 
 -- so is its plan
@@ -506,7 +506,7 @@ refuses-E =
     inr (λ q t. Option·none-ne-some 7 (sym (rows-of-true edition2 sitesT (valid sitesT in-range-T) planT marked2 (lit≤ tt) q t) ∙ plan-7-E), 7, plan-7-E, refl, refl)
 
 load-1-E : turned overT (reply (refused 1) []) ≡ turn overT (call Load listT [])
-unfolding firstRow value records any
+unfolding firstRow value records any crewsAbove sitesUncrewed
 load-1-E = refl
 
 -- litres of 17 bits, and as many sites as the new table has places
@@ -533,6 +533,79 @@ modelled-E z =
     (next writes-E
     (next written-20-E
     (next list-E (next list-20-E (next refuses-E (next load-1-E (next adds-E (next adds-again-E (next full-E start))))))))))))))
+
+-- ---- crews
+
+load-22 : turned emptyB (reply (refused 22) []) ≡ turn emptyB (call Load (listCrewed 10 0) [])
+unfolding firstRow value records any crewsAbove sitesUncrewed
+load-22 = refl
+
+load-23 : turned emptyB (reply (refused 23) []) ≡ turn emptyB (call Load (listCrewed 3 0) [])
+unfolding firstRow value records any crewsAbove sitesUncrewed
+load-23 = refl
+
+loads-C : turned loadedC (reply done []) ≡ turn emptyB (call Load listRolled [])
+unfolding firstRow value records any crewsAbove sitesUncrewed
+loads-C = refl
+
+in-range-C : T (inRange Rolled)
+unfolding inRange depotsInRange crewsAbove sitesUncrewed all any
+in-range-C = tt
+
+refuses-C : firstRow (modelRows loadedC (call Propose (planC 24) [])) ≡ some 15
+unfolding firstRow value records sum any has weigh size network planRows groupsMeet groupsUnlisted sharesBroken shareBroken loadsUneven scaledLoad shareOf target groupsRise place union carrier groupSize groupLitres whole firstShare secondShare
+refuses-C = refl
+
+true-C : True edition2 Rolled (planOf edition2 1 (planC 36)) (planC 36)
+unfolding all firstRow value records sum any has weigh size network planRows groupsMeet groupsUnlisted sharesBroken shareBroken loadsUneven scaledLoad shareOf target groupsRise place union carrier groupSize groupLitres whole firstShare secondShare
+true-C = true-of-rows edition2 Rolled (valid Rolled in-range-C) (planC 36) (are-bytes (planC 36) tt) refl
+
+accepts-C : Proposes loadedC (call Propose (planC 36) []) (reply done []) plannedC
+unfolding value records
+accepts-C = inl (planOf edition2 1 (planC 36), true-C, refl, refl)
+
+groups-C : Decomposition (network Rolled) (3 ∷ [])
+unfolding value records
+groups-C = true-C .groups
+
+depot-C : turned plannedC (reply (loaded 12 4) []) ≡ turn plannedC (call (Depot 0) [] [])
+unfolding firstRow network any sum has weigh size place carrier groupSize groupLitres
+depot-C =
+    ap₂ (λ (w q : ℕ). turned plannedC (reply (loaded w q) [])) (depot-litres (network Rolled) (valid Rolled in-range-C) (3 ∷ []) groups-C 0)
+    (depot-size (network Rolled) (valid Rolled in-range-C) (3 ∷ []) groups-C 0)
+
+shares-C : turned plannedC (reply (shared 36 48) []) ≡ turn plannedC (call (Share 0) [] [])
+unfolding firstRow network sum has weigh size place carrier groupSize whole
+shares-C = ap (λ (w : ℕ). turned plannedC (reply (shared 36 w) [])) (site-whole (network Rolled) (valid Rolled in-range-C) (3 ∷ []) groups-C 0)
+
+add-23 : Leaves plannedC (Add 0 2 5) [] 23
+unfolding firstRow
+add-23 = refl
+
+adds-C : turned addedC (reply done []) ≡ turn plannedC (call (Add 0 1 5) [] [])
+unfolding firstRow
+adds-C = refl
+
+wants-C : Leaves addedC (Depot 0) [] 17
+unfolding firstRow
+wants-C = refl
+
+added-C-out : WritesOut addedC (replicate 87 7) 86 (listC ++ (7 ∷ []))
+unfolding firstRow listBytes le flatMap
+added-C-out = refl
+
+loads-unrolled : turned unrolledC (reply done []) ≡ turn addedC (call Load (listWith []) [])
+unfolding firstRow value records any crewsAbove sitesUncrewed
+loads-unrolled = refl
+
+modelled-C : Modelled edition2 2 (events callsC) repliesC unrolledC
+modelled-C =
+    next load-22
+    (next load-23
+    (next loads-C
+    (next (refuses edition2 marked2 Rolled none (planC 24) 15 in-range-C (lit≤ tt) refuses-C)
+    (next accepts-C
+    (next depot-C (next shares-C (next add-23 (next adds-C (next wants-C (next added-C-out (next loads-unrolled start)))))))))))
 
 -- ---- the store's history has these replies
 
@@ -577,6 +650,10 @@ history-E x y z =
     has-history marked1 (eventsE z) repliesE (addedE (own 1 65536 ∷ own 1 1 ∷ [])) (modelled-E z)
     (are-bytes listT tt, (are-bytes planT tt, (tt, (tt, are-all afterE tt)))) x y
 
+pub history-C : (x y : Site) → (s : State) × History edition2 (x ∷ y ∷ []) (events callsC) repliesC s × (modelOf s ≡ unrolledC)
+unfolding inputs all
+history-C = has-history marked2 (events callsC) repliesC unrolledC modelled-C (are-all callsC tt)
+
 -- the proposal that passed last, by these calls and replies, on a table of any places: of T its plan, of the own sites none after the change, of the pair the second, of the lists
 -- written out none after a site was added
 pub last-T : (table : List Site) → trace edition1 table (events callsT) repliesT .proposal ≡ some (record { edition = edition1; bytes = plansT 0x0A })
@@ -594,6 +671,12 @@ last-P table = refl
 pub last-L : (table : List Site) → trace edition1 table (events callsL) repliesL .proposal ≡ none
 unfolding traced
 last-L table = refl
+
+-- the roll of the list last loaded: before the last call, and after it
+pub rolls-C : (table : List Site)
+    → (trace edition2 table (events (take 11 callsC)) (take 11 repliesC) .roll ≡ some crewsThreeOne) × (trace edition2 table (events callsC) repliesC .roll ≡ none)
+unfolding traced value
+rolls-C table = (refl, refl)
 
 -- ---- what no model answers, and so no history has
 
@@ -728,3 +811,23 @@ module _ (z : Site) (rs : List Reply) (b : Model) (run : Modelled edition1 2 (ev
   -- "from there on with the new table and its places": a third site fits, and a fourth does not
   pub places-over : (nth 13 rs ≡ done) × (nth 14 rs ≡ refused 2)
   places-over = (sym (is-E 13), sym (is-E 14))
+
+module _ (rs : List Reply) (b : Model) (run : Modelled edition2 2 (events callsC) rs b) where
+  is-C : (i : ℕ) → nth i repliesC ≡ nth i rs
+  is-C i = ap (nth i) (one-model modelled-C run .0)
+
+  -- a plan that is level where each depot has one crew
+  pub not-one-crew-each : nth 3 rs ≡ done → ⊥
+  not-one-crew-each h = let e : refused 15 ≡ done = is-C 3 ∙ h in let z : _≡_ {A = ℕ} 0 1 = cc in omega arith
+
+  -- q is the crews added up, and not the number of depots
+  pub not-depots-counted : (w q : ℕ) → nth 5 rs ≡ loaded w q → (w ≡ 12) × (q ≡ 4)
+  not-depots-counted w q h = let e : loaded 12 4 ≡ loaded w q = is-C 5 ∙ h in (cc, cc)
+
+  -- "a site added to a desk" answers to row 23
+  pub not-added-uncrewed : nth 7 rs ≡ done → ⊥
+  not-added-uncrewed h = let e : refused 23 ≡ done = is-C 7 ∙ h in let z : _≡_ {A = ℕ} 0 1 = cc in omega arith
+
+  -- the list written out has its roll
+  pub roll-out : (nth 10 rs ≡ wrote 86) × (nthBuffer 10 rs ≡ listC ++ (7 ∷ []))
+  roll-out = (sym (is-C 10), sym (ap (nthBuffer 10) (one-model modelled-C run .0)))

@@ -19,7 +19,6 @@ use Rattle.density.specs.Figures.{depotLitres, depotSize, siteWhole, difference
 use Rattle.density.proofs.Figures.{depot-litres, depot-size, site-whole}
 use Rattle.density.proofs.AtLeast.{by-is, every-is, at-least-zero, at-least-fewer}
 use Rattle.records.specs.declared.Edition.{Edition}
-use Rattle.records.specs.Bytes.{Bytes}
 use Rattle.records.specs.Values.{Plan}
 use Rattle.records.specs.Format.{edition1, edition2}
 use Rattle.records.specs.Write.{planBytes, isShort, All, Marked}
@@ -35,7 +34,7 @@ use Rattle.store.specs.Trace.{Run, start, then, Steps, Goes, History, Mo
 use Rattle.store.proofs.Rules.{granted-not-refused}
 use Rattle.store.proofs.Steps.{Holds, holds-valid, Fed, fresh-holds, row-zero-off, kept}
 use Rattle.store.proofs.LastPassed.{backed-from, backed-true, none-from}
-use Rattle.store.proofs.Migrate.{Agrees, goes-on, gone-on, migration-or-row-2, each-held}
+use Rattle.store.proofs.Migrate.{Agrees, goes-on, gone-on, migration-or-row-2, each-held, none-held}
 use Rattle.store.proofs.SameAnswers.{same-through}
 use Rattle.store.proofs.Writers.{plan-replies, list-replies}
 use Rattle.store.proofs.OneModel.{one-run, one-model, one-follows}
@@ -66,7 +65,7 @@ run-reached (then {s = s} {s₁ = s₁} {v = v} {r = r} x xs) m h b t a =
     }
 
 fresh-agrees : (e : Edition) (table : List Site) → Agrees (begun e table) (fresh e table)
-fresh-agrees e table = record { edition = refl; places = refl; backed = tt; own = λ p k. absurd (Option·none-ne-some p k) }
+fresh-agrees e table = record { edition = refl; places = refl; backed = tt; own = λ p k. absurd (Option·none-ne-some p k); roll = refl }
 
 -- ---- a question
 
@@ -265,6 +264,8 @@ module _ {e : Edition} (m : Marked e) {table : List Site} {events : List Event} 
         tidy = final .holds .tidy;
         edition = final .agrees .edition;
         sized = final .agrees .places;
+        roll = final .agrees .roll;
+        unrolled = none-held s (final .holds);
         plan-held = plan-held;
         plan-true = plan-true;
         made-in = λ p l. subst (MadeIn p) (sym (final .agrees .edition)) (final .agrees .own p l);
@@ -292,8 +293,8 @@ module _ {e : Edition} (m : Marked e) {table : List Site} {events : List Event} 
             (subst (λ (z : ℕ). has z ⊆ has (setOf (atLeast (network (b .list)) n) 64)) (sym (reached-so c' n' r' s₂ y' k' x' a'))
             (at-least-fewer (network (b .list)) n n' l));
         list-written-out = λ c r s' k x. list-replies s (final .holds .intact) c r s' k x;
-        migration = migration-or-row-2 s (final .holds .intact) (each-held s (final .holds));
-        same-answers = same-through s (final .holds .intact) (each-held s (final .holds));
+        migration = migration-or-row-2 s (final .holds .intact) (each-held s (final .holds)) (none-held s (final .holds));
+        same-answers = same-through s (final .holds .intact) (each-held s (final .holds)) (none-held s (final .holds));
       }
 
 -- the store's edition has marks of two bytes, as the one it began with

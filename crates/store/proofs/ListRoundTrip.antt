@@ -13,12 +13,13 @@ use Rattle.density.specs.declared.Site.{Site}
 use Rattle.density.specs.Network.{Listing, noSite, siteAt}
 use Rattle.records.specs.declared.Edition.{Edition}
 use Rattle.records.specs.Outcome.{passed}
-use Rattle.records.specs.Format.{sitesOf, readList}
-use Rattle.records.specs.Write.{listBytes, onto, All, Marked, Allowed, Good}
+use Rattle.records.specs.Format.{listingOf, readList}
+use Rattle.records.specs.Write.{listBytes, onto, All, Marked, Allowed, Good, Whole, Crewed}
+use Rattle.records.proofs.Answers.{roll-array}
 use Rattle.records.proofs.Records.{all-from}
 use Rattle.records.proofs.RoundTrip.{list-back, list-again}
 use Rattle.held_state.specs.Held.{State, listOf, corrupt}
-use Rattle.held_state.proofs.Intact.{neither, listing, Intact, intact→, sized}
+use Rattle.held_state.proofs.Intact.{neither, listing, good-crewed, Intact, intact→, sized}
 use Rattle.store.specs.declared.Request.{Request}
 use Rattle.store.specs.declared.Request.the-variants.{Load, ListWritten}
 use Rattle.store.specs.Calls.{Call, Event, Reply, refused, done, wrote}
@@ -30,7 +31,7 @@ use Rattle.store.proofs.Steps.{row-zero}
 use Rattle.store.proofs.Settled.{load-read, load-done}
 use Rattle.store.proofs.Widths.{run-sites}
 use Rattle.store.proofs.Writers.{every-writer}
-use Rattle.store.proofs.History.{history-marked}
+use Rattle.store.proofs.History.{history-marked, history-holds}
 
 -- ---- a list written out
 
@@ -59,7 +60,7 @@ module _ (s : State) (c : Call) (r : Reply) (s' : State) (n : ℕ) (k : c .reque
           let z : _≡_ {A = ℕ} 0 1 = cc in
           omega arith)
 
--- ---- it is read back, where the litres held have their width
+-- ---- it is read back, where the litres held have their width, and a roll its bytes
 
 module _ (s : State) (i : Intact s) (fit : PlacesFit (s .store .count) s) where
   pub held-good : All (Good (s .edition)) (listOf s .sites)
@@ -69,7 +70,7 @@ module _ (s : State) (i : Intact s) (fit : PlacesFit (s .store .count) s) where
       good j l =
           let x = siteAt (listOf s) j in
           let below : j < s .store .count = omega (arith, sized s (i .room)) in
-          let tests = neither (ltb 63 (x .first) || ltb 63 (x .second)) (eqb (x .litres) 0) (i .good j l) in
+          let tests = neither (ltb 63 (x .first) || ltb 63 (x .second)) (eqb (x .litres) 0) (i .good .sites j l) in
           let depots = neither (ltb 63 (x .first)) (ltb 63 (x .second)) (tests .0) in
           let allowed : Allowed x =
           record {
@@ -82,8 +83,12 @@ module _ (s : State) (i : Intact s) (fit : PlacesFit (s .store .count) s) where
             fits = subst (λ (y : Site). y .litres < 256 ^ s .edition .litres) (sym (getD-take (s .store .count) (s .table) j noSite below)) (fit j below);
           }
 
-  held-back : Marked (s .edition) → (places : ℕ) → count (modelOf s) ≤ places → readList (s .edition) places (listOut s) ≡ passed (listOf s)
-  held-back m places room = list-back (s .edition) m (listOf s) (rw (sized s (i .room)) (i .few)) places room held-good
+  -- rows 22 and 23 do not refuse it
+  pub held-crewed : Whole (s .edition) (listOf s .roll) → Crewed (s .edition) (listOf s)
+  held-crewed w = record { whole = w; few = i .good .roll; named = good-crewed (listOf s) (i .good) }
+
+  held-back : Marked (s .edition) → Whole (s .edition) (listOf s .roll) → (places : ℕ) → count (modelOf s) ≤ places → readList (s .edition) places (listOut s) ≡ passed (listOf s)
+  held-back m w places room = list-back (s .edition) m (listOf s) (rw (sized s (i .room)) (i .few)) (held-crewed w) places room held-good
 
 -- ---- a list loaded: the list then held is the one read
 
@@ -93,25 +98,26 @@ load-list t c r t' l k read x =
     let d = x ∙ load-read t c l k read .0 in (
       ap (λ (d : Done). d .reply .answer) d,
       ap (λ (d : Done). d .after .edition) d,
-      ap (λ (d : Done). modelOf (d .after) .list) d ∙ ap listing (take-append-seam (l .sites) (drop (length (l .sites)) (t .table))),
+      ap (λ (d : Done). modelOf (d .after) .list) d ∙ ap₂ listing (roll-array (l .roll)) (take-append-seam (l .sites) (drop (length (l .sites)) (t .table))),
     )
 
--- Both round trips of the list: at every state, whatever it holds, whose sites have litres of the edition's width.
-pub list-round-trip : (s : State) → Marked (s .edition) → PlacesFit (s .store .count) s → ListRoundTrip s
-list-round-trip s m fit =
+-- Both round trips of the list: at every state, whatever it holds, whose sites have litres of the edition's width, and whose roll, where it has one, is of an edition with rolls and has a byte
+-- for each depot.
+pub list-round-trip : (s : State) → Marked (s .edition) → PlacesFit (s .store .count) s → Whole (s .edition) (listOf s .roll) → ListRoundTrip s
+list-round-trip s m fit w =
     record {
       reads = λ c r s' n places k x a room.
           subst (λ (z : List ℕ). readList (s .edition) places z ≡ passed (listOf s)) (sym (list-front s c r s' n k x a))
-          (held-back s (list-intact s c r s' n k x a) fit m places room);
+          (held-back s (list-intact s c r s' n k x a) fit m w places room);
       loads = λ c c' r r' s' t t' n k x a of-e room k' input x'.
           let front : c' .input ≡ listOut s = input ∙ list-front s c r s' n k x a in
           let read : readList (t .edition) (length (t .table)) (c' .input) ≡ passed (listOf s) =
           ap₂ (λ (e : Edition) (z : List ℕ). readList e (length (t .table)) z) of-e front
-          ∙ held-back s (list-intact s c r s' n k x a) fit m (length (t .table)) room in
+          ∙ held-back s (list-intact s c r s' n k x a) fit m w (length (t .table)) room in
           let loaded = load-list t c' r' t' (listOf s) k' read x' in
           (loaded .0, loaded .2);
       again = λ c c' r r' s' t n k b x a k' x' a'.
-          let l : Listing = listing (sitesOf (s .edition) (c .input)) in
+          let l : Listing = listingOf (s .edition) (c .input) in
           let read = load-done s c r s' k x a in
           let loaded = load-list s c r s' l k read x in
           let out : listOut s' ≡ c .input =
@@ -128,4 +134,4 @@ history-fits {e} {table} h bytes named =
 
 pub history-list : {e : Edition} → Marked e → {table : List Site} {events : List Event} {replies : List Reply} {s : State} → History e table events replies s
     → AllBytes events → AllNamed (begun e table) events replies → ListRoundTrip s
-history-list m {s = s} h bytes named = list-round-trip s (history-marked m h bytes) (history-fits h bytes named .litres)
+history-list m {s = s} h bytes named = list-round-trip s (history-marked m h bytes) (history-fits h bytes named .litres) (history-holds m h bytes .roll)

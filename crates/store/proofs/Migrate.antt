@@ -16,8 +16,8 @@ use Rattle.density.specs.Network.{Listing, network}
 use Rattle.density.specs.Plan.{TruePlan}
 use Rattle.density.specs.Rows.{firstRow, row}
 use Rattle.records.specs.declared.Edition.{Edition}
-use Rattle.records.specs.Values.{Plan}
-use Rattle.records.specs.Format.{edition1, edition2}
+use Rattle.records.specs.Values.{Plan, rollArray}
+use Rattle.records.specs.Format.{edition1, edition2, rollOf}
 use Rattle.records.specs.Write.{Marked}
 use Rattle.records.proofs.Samples.{marked2}
 use Rattle.store.specs.declared.Request.{Request}
@@ -25,19 +25,21 @@ use Rattle.store.specs.declared.Request.the-variants.{Load, Change, Add,
 use Rattle.store.specs.Calls.{Call, Event, called, migrate, Reply, Told, unbuffered, done, refused}
 use Rattle.store.specs.Model.{Model, count, migrateRows, Possible, Follows}
 use Rattle.store.specs.Model as M
+use Rattle.held_state.specs.declared.Store.{Store}
 use Rattle.held_state.specs.Held.{State, on, listOf, planHeld, badPlan, corrupt}
 use Rattle.store.specs.State.{Done, modelOf, bare, holding, migrated, migrateRow, migrateStep, stays, stepOn}
-use Rattle.store.specs.Trace.{Goes, InBytes, Proposal, MadeIn, Traced, leaves, ended, tracedOn, traced, begun, trace, Tidy, Migration, Migrates}
-use Rattle.store.proofs.Steps.{Holds, bare-holds, holding-plan, holding-intact, holding-tidy, holding-holds, fed, keeps, not-zero}
+use Rattle.store.specs.Trace.{Goes, InBytes, Proposal, MadeIn, Traced, leaves, rollLeft, ended, tracedOn, traced, begun, trace, Tidy, Migration, Migrates}
+use Rattle.store.proofs.Steps.{Holds, unrolled, bare-holds, holding-plan, holding-intact, holding-tidy, holding-holds, fed, keeps, not-zero}
 use Rattle.store.proofs.LastPassed.{BackedIn, says-backed}
 use Rattle.held_state.proofs.Intact.{Good, listing, Intact, sized, intact→}
 
--- What events and replies tell of a state: its edition, its places, and the proposal that its plan comes from.
+-- What events and replies tell of a state: its edition, its places, the proposal that its plan comes from, and its roll or the lack of one.
 pub record Agrees (t : Traced) (s : State) : Type 0 where
   pub edition : s .edition ≡ t .edition
   pub places : length (s .table) ≡ t .places
   pub backed : BackedIn (modelOf s) (t .proposal)
   pub own : (p : Proposal) → t .proposal ≡ some p → MadeIn p (t .edition)
+  pub roll : listOf s .roll ≡ t .roll
 
 -- a proposal to a store that is still of edition 1 was made in edition 1
 own-edition : (t : Traced) (p : Proposal) → t .edition ≡ edition1 → MadeIn p (t .edition) → p .edition ≡ edition1
@@ -90,9 +92,9 @@ pub record KeptOn (s : State) (v : Event) (d : Done) : Type 0 where
   pub agrees : (t : Traced) → Agrees t s → Agrees (tracedOn v (d .reply .answer) t) (d .after)
   pub not-zero : d .reply .answer ≡ refused 0 → ⊥
 
--- ---- the step to edition 2 where the new table has the places: at a state that is not corrupt, and has a share for each site where a plan is held
+-- ---- the step to edition 2 where the new table has the places: at a state that is not corrupt, has a share for each site where a plan is held, and has no roll
 
-module _ (s : State) (sound : corrupt s ≡ false) (each : s .store .held ≡ true → length (planHeld s .shares) ≡ s .store .count) (table : List Site)
+module _ (s : State) (sound : corrupt s ≡ false) (each : s .store .held ≡ true → length (planHeld s .shares) ≡ s .store .count) (no-roll : listOf s .roll ≡ none) (table : List Site)
     (room : s .store .count ≤ length table) where
   abbrev n : ℕ
   n = s .store .count
@@ -110,29 +112,32 @@ module _ (s : State) (sound : corrupt s ≡ false) (each : s .store .held ≡ tr
   long : length filled ≡ length table
   long = rw (length-append, size, length-drop) (omega arith)
 
-  front : listing (take n filled) ≡ listOf s
-  front = ap listing (take-at (listOf s .sites) (drop n table) n size)
+  front : listing none (take n filled) ≡ listOf s
+  front = ap₂ listing (sym no-roll) (take-at (listOf s .sites) (drop n table) n size)
 
-  good : Good (listing (take n filled))
+  good : Good (listing none (take n filled))
   good = subst Good (sym front) (parts .good)
 
   -- the store then, by whether a plan is held
+  abbrev empty : Store
+  empty = bare n (rollArray none)
+
   abbrev over : Bool → State
-  over x = on edition2 (cond x (holding (s .store) (planHeld s)) (bare n)) filled
+  over x = on edition2 (cond x (holding empty (planHeld s)) empty) filled
 
   over-bare : Holds (over false)
-  over-bare = bare-holds edition2 n filled (parts .few) (rw long room) good
+  over-bare = bare-holds edition2 n (rollArray none) filled (parts .few) (rw long room) good tt
 
   module _ (t : s .store .held ≡ true) where
     same-plan : planHeld (over true) ≡ planHeld s
-    same-plan = holding-plan edition2 (s .store) (planHeld s) filled (each t)
+    same-plan = holding-plan edition2 empty (planHeld s) filled (each t)
 
     few-groups : length (planHeld s .groups) ≤ 64
     few-groups = rw length-take (omega (arith, parts .groups (passes (s .store .held) t)))
 
     over-intact : corrupt (over true) ≡ false
     over-intact =
-        holding-intact edition2 (s .store) (planHeld s) filled (each t) (parts .few) (rw long room) good few-groups
+        holding-intact edition2 empty (planHeld s) filled (each t) (parts .few) (rw long room) good few-groups
         (subst (λ (l : Listing). T (badPlan l (planHeld s)) → ⊥) (sym front) (parts .plan (passes (s .store .held) t)))
 
   intact-by : (x : Bool) → s .store .held ≡ x → corrupt (over x) ≡ false
@@ -141,7 +146,7 @@ module _ (s : State) (sound : corrupt s ≡ false) (each : s .store .held ≡ tr
 
   tidy-by : (x : Bool) → s .store .held ≡ x → Tidy (over x)
   tidy-by false e = over-bare .tidy
-  tidy-by true e = holding-tidy edition2 (s .store) (planHeld s) filled (each e)
+  tidy-by true e = holding-tidy edition2 empty (planHeld s) filled (each e)
 
   abbrev modelWith : ℕ → Listing → Option Plan → Model
   modelWith k l o = record { edition = edition2; places = k; list = l; plan = o }
@@ -177,8 +182,8 @@ module _ (s : State) (sound : corrupt s ≡ false) (each : s .store .held ≡ tr
     holds-by : (x : Bool) → s .store .held ≡ x → Holds (over x)
     holds-by false e = over-bare
     holds-by true e =
-        holding-holds edition2 (s .store) (planHeld s) filled (each e) (over-intact e)
-        (subst (λ (l : Listing). TruePlan (network l) (planHeld s .groups) (planHeld s .shares)) (sym front) (holds e))
+        holding-holds edition2 empty (planHeld s) filled (each e) (over-intact e)
+        (subst (λ (l : Listing). TruePlan (network l) (planHeld s .groups) (planHeld s .shares)) (sym front) (holds e)) tt
 
     pub migrated-holds : Holds (migrated s table)
     migrated-holds = holds-by (s .store .held) refl
@@ -217,20 +222,25 @@ module _ (s : State) (table : List Site) where
   pub no-second-step : s .edition ≡ edition2 → (r : Reply) (s' : State) → Goes s (migrate table) r s' → ⊥
   no-second-step e r s' x = let z : _≡_ {A = ℕ} 4 2 = ap (λ (e : Edition). e .litres) (sym e ∙ x .0) in omega arith
 
--- row 2, or the store has gone over: at any state that is not corrupt, and has a share for each site where a plan is held
-module _ (s : State) (sound : corrupt s ≡ false) (each : s .store .held ≡ true → length (planHeld s .shares) ≡ s .store .count) (table : List Site) where
-  over-by : (b : Bool) → ltb (length table) (count (modelOf s)) ≡ b → (r : Reply) (s' : State) → record { after = s'; reply = r } ≡ migrateStep (firstRow (row 2 b ∷ [])) s table
+-- row 2, or the store has gone over: at any state that is not corrupt, has a share for each site where a plan is held, and no roll where its edition has none
+module _ (s : State) (sound : corrupt s ≡ false) (each : s .store .held ≡ true → length (planHeld s .shares) ≡ s .store .count)
+    (rolls : s .edition .roll ≡ false → listOf s .roll ≡ none) (table : List Site) where
+  -- so none where it is of edition 1
+  no-roll-yet : s .edition ≡ edition1 → listOf s .roll ≡ none
+  no-roll-yet e = rolls (ap (λ (e : Edition). e .roll) e)
+
+  over-by : s .edition ≡ edition1 → (b : Bool) → ltb (length table) (count (modelOf s)) ≡ b → (r : Reply) (s' : State) → record { after = s'; reply = r } ≡ migrateStep (firstRow (row 2 b ∷ [])) s table
       → Migrates s table r s'
   unfolding firstRow
-  over-by true k r s' x = inl (ltb-true (length table) (count (modelOf s)) k, ap (λ (d : Done). d .reply) x, ap (λ (d : Done). d .after) x)
-  over-by false k r s' x =
+  over-by e true k r s' x = inl (ltb-true (length table) (count (modelOf s)) k, ap (λ (d : Done). d .reply) x, ap (λ (d : Done). d .after) x)
+  over-by e false k r s' x =
       let few : count (modelOf s) ≤ length table = ltb-false (length table) (count (modelOf s)) k in
       let room : s .store .count ≤ length table = omega (arith, few, sized s (intact→ s sound .room)) in
-      inr (few, ap (λ (d : Done). d .reply) x, subst (Migration s table) (sym (ap (λ (d : Done). d .after) x)) (migration s sound each table room))
+      inr (few, ap (λ (d : Done). d .reply) x, subst (Migration s table) (sym (ap (λ (d : Done). d .after) x)) (migration s sound each (no-roll-yet e) table room))
 
   pub migration-or-row-2 : (r : Reply) (s' : State) → Goes s (migrate table) r s' → Migrates s table r s'
   migration-or-row-2 r s' x =
-      over-by (ltb (length table) (count (modelOf s))) refl r s' (x .1 ∙ ap (λ (o : Option ℕ). migrateStep o s table) (migrate-sound s table sound))
+      over-by (x .0) (ltb (length table) (count (modelOf s))) refl r s' (x .1 ∙ ap (λ (o : Option ℕ). migrateStep o s table) (migrate-sound s table sound))
 
   -- what follows is not corrupt either
   pub still-sound : (r : Reply) (s' : State) → Goes s (migrate table) r s' → corrupt s' ≡ false
@@ -243,7 +253,7 @@ module _ (s : State) (sound : corrupt s ≡ false) (each : s .store .held ≡ tr
       by false k h =
           let few : count (modelOf s) ≤ length table = ltb-false (length table) (count (modelOf s)) k in
           let room : s .store .count ≤ length table = omega (arith, few, sized s (intact→ s sound .room)) in
-          ap (λ (d : Done). corrupt (d .after)) h ∙ migrated-intact s sound each table room
+          ap (λ (d : Done). corrupt (d .after)) h ∙ migrated-intact s sound each (no-roll-yet (x .0)) table room
 
 -- a store has a share for each site: one with all its places, and one that holds what it should
 pub each-of-512 : (s : State) → corrupt s ≡ false → length (s .store .shares) ≡ 512 → s .store .held ≡ true → length (planHeld s .shares) ≡ s .store .count
@@ -252,6 +262,10 @@ each-of-512 s sound wide t = length-take-le (s .store .count) (s .store .shares)
 pub each-held : (s : State) → Holds s → s .store .held ≡ true → length (planHeld s .shares) ≡ s .store .count
 unfolding network
 each-held s h t = h .plan t .form .each ∙ sized s (intact→ s (h .intact) .room)
+
+-- and no roll where its edition has none
+pub none-held : (s : State) → Holds s → s .edition .roll ≡ false → listOf s .roll ≡ none
+none-held s h = unrolled (s .edition) (listOf s .roll) (h .roll)
 
 -- ---- the step is the model's
 
@@ -271,10 +285,11 @@ module _ (s : State) (h : Holds s) (m : Marked (s .edition)) (table : List Site)
       let room : s .store .count ≤ length table =
       omega (arith, ltb-false (length table) (count (modelOf s)) k, sized s (intact→ s (h .intact) .room)) in
       let each = each-held s h in
-      let model = migrated-model s (h .intact) each table room in
+      let no-roll : listOf s .roll ≡ none = none-held s h (ap (λ (e : Edition). e .roll) e) in
+      let model = migrated-model s (h .intact) each no-roll table room in
       record {
         follows = (e, rw k (ap (λ (b : Model). M.turned b (unbuffered done)) model));
-        holds = migrated-holds s (h .intact) each table room (h .plan);
+        holds = migrated-holds s (h .intact) each no-roll table room (h .plan);
         marked = marked2;
         agrees = λ t a.
             record {
@@ -282,6 +297,7 @@ module _ (s : State) (h : Holds s) (m : Marked (s .edition)) (table : List Site)
               places = ap (λ (b : Model). b .places) model;
               backed = subst (λ (b : Model). BackedIn b (t .proposal)) (sym model) (a .backed);
               own = λ p k. inr (own-edition t p (sym (a .edition) ∙ e) (a .own p k), refl);
+              roll = ap (λ (b : Model). b .list .roll) model ∙ no-roll;
             };
         not-zero = λ z. let c : _≡_ {A = ℕ} 0 1 = cc in omega arith;
       }
@@ -304,6 +320,9 @@ module _ (s : State) (m : Marked (s .edition)) (h : Holds s) where
             record {
               edition = k .edition ∙ a .edition;
               places = k .places ∙ a .places;
+              roll =
+                  k .roll
+                  ∙ ap₂ (λ (e : Edition) (o : Option (List ℕ)). rollLeft (c .request) (rollOf e (c .input)) (d .reply .answer) o) (a .edition) (a .roll);
               own = call-leaves (λ (p : Proposal). MadeIn p (t .edition)) (c .request) (record { edition = t .edition; bytes = c .input }) (d .reply .answer) (t .proposal) (inl refl) (a .own);
               backed =
                   says-backed (modelOf s) c (t .proposal) (a .backed) (t .edition) (sym (a .edition)) (d .reply) (modelOf (d .after)) (c .request) refl (k .says);

@@ -143,10 +143,10 @@ figures-same s s' sound sound' list plan c f =
     ∙ sym (figure-answer s sound c f)
 
 -- "each question gets the figure it would have got before": through the step, done or refused
-pub same-through : (s : State) → corrupt s ≡ false → (s .store .held ≡ true → length (planHeld s .shares) ≡ s .store .count) → (new : List Site) (r : Reply) (s' : State)
-    → Goes s (migrate new) r s' → (c : Call) → Figure (c .request) → step s' c .reply ≡ step s c .reply
-same-through s sound each new r s' x c f = by (migration-or-row-2 s sound each new r s' x)
+pub same-through : (s : State) → corrupt s ≡ false → (s .store .held ≡ true → length (planHeld s .shares) ≡ s .store .count) → (s .edition .roll ≡ false → listOf s .roll ≡ none)
+    → (new : List Site) (r : Reply) (s' : State) → Goes s (migrate new) r s' → (c : Call) → Figure (c .request) → step s' c .reply ≡ step s c .reply
+same-through s sound each rolls new r s' x c f = by (migration-or-row-2 s sound each rolls new r s' x)
   where
     by : Migrates s new r s' → step s' c .reply ≡ step s c .reply
     by (inl (few, reply, stays)) = ap (λ (z : State). step z c .reply) stays
-    by (inr (few, reply, m)) = figures-same s s' sound (still-sound s sound each new r s' x) (m .sites) (m .plan) c f
+    by (inr (few, reply, m)) = figures-same s s' sound (still-sound s sound each rolls new r s' x) (m .sites) (m .plan) c f

@@ -11,10 +11,10 @@ use Rattle.density.specs.Network.{Listing}
 use Rattle.density.specs.Rows.{firstRow}
 use Rattle.records.specs.Record.{wrongMark}
 use Rattle.records.specs.Outcome.{refused, passed, settle as outcome}
-use Rattle.records.specs.Format.{sitesOf, listRows, readList}
+use Rattle.records.specs.Values.{rollArray}
+use Rattle.records.specs.Format.{listingOf, listRows, readList}
 use Rattle.records.proofs.RoundTrip.{list-few}
 use Rattle.held_state.specs.Held.{State, corrupt}
-use Rattle.held_state.proofs.Intact.{listing}
 use Rattle.store.specs.declared.Request.{Request}
 use Rattle.store.specs.declared.Request.the-variants.{Load, Propose}
 use Rattle.store.specs.Calls.{Call, Reply, same, done}
@@ -49,31 +49,31 @@ module _ (s : State) (c : Call) where
   unfolding readList
   load-refused n k h =
       refused-step n
-      (load-row k ∙ settle-refused (firstRow (listRows (s .edition) (length (s .table)) (c .input))) (listing (sitesOf (s .edition) (c .input))) h)
+      (load-row k ∙ settle-refused (firstRow (listRows (s .edition) (length (s .table)) (c .input))) (listingOf (s .edition) (c .input)) h)
 
   pub load-read : (l : Listing) → c .request ≡ Load → readList (s .edition) (length (s .table)) (c .input) ≡ passed l
-      → (step s c ≡ next s (bare (length (l .sites))) (l .sites ++ drop (length (l .sites)) (s .table)) (same c done))
+      → (step s c ≡ next s (bare (length (l .sites)) (rollArray (l .roll))) (l .sites ++ drop (length (l .sites)) (s .table)) (same c done))
       × (length (l .sites) ≤ 512)
       × (length (l .sites) ≤ length (s .table))
   unfolding readList
   load-read l k h =
-      let p = settle-passed (firstRow (listRows (s .edition) (length (s .table)) (c .input))) (listing (sitesOf (s .edition) (c .input))) h in
+      let p = settle-passed (firstRow (listRows (s .edition) (length (s .table)) (c .input))) (listingOf (s .edition) (c .input)) h in
       let few = list-few (s .edition) (length (s .table)) (c .input) h in (
         granted-to Load k (load-row k ∙ p .0)
-            ∙ ap (λ (l : Listing). next s (bare (length (l .sites))) (l .sites ++ drop (length (l .sites)) (s .table)) (same c done)) (p .1),
+            ∙ ap (λ (l : Listing). next s (bare (length (l .sites)) (rollArray (l .roll))) (l .sites ++ drop (length (l .sites)) (s .table)) (same c done)) (p .1),
         few .0,
         few .1,
       )
 
   -- a load that is answered by success has read its list
   pub load-done : (r : Reply) (s' : State) → c .request ≡ Load → Steps s c r s' → r .answer ≡ done
-      → readList (s .edition) (length (s .table)) (c .input) ≡ passed (listing (sitesOf (s .edition) (c .input)))
+      → readList (s .edition) (length (s .table)) (c .input) ≡ passed (listingOf (s .edition) (c .input))
   unfolding readList
   load-done r s' k x a =
       let rows = listRows (s .edition) (length (s .table)) (c .input) in
       let e : r .answer ≡ settle (firstRow rows) s c (effectOf s c (c .request)) .reply .answer =
       ap (λ (d : Done). d .reply .answer) x ∙ ap (λ (o : Option ℕ). settle o s c (effectOf s c (c .request)) .reply .answer) (load-row k) in
-      ap (λ (o : Option ℕ). outcome o (listing (sitesOf (s .edition) (c .input)))) (not-refused (firstRow rows) (sym e ∙ a))
+      ap (λ (o : Option ℕ). outcome o (listingOf (s .edition) (c .input))) (not-refused (firstRow rows) (sym e ∙ a))
     where
       not-refused : (o : Option ℕ) → settle o s c (effectOf s c (c .request)) .reply .answer ≡ done → o ≡ none
       not-refused none e = refl

@@ -1,31 +1,33 @@
 -- A step keeps the widths of an edition: figures read are fields of that width, and those filled in are zero. Assumes nothing.
-use mathlib.Core.Path.{_≡_, refl, sym, _∙_, subst}
+use mathlib.Core.Path.{_≡_, refl, sym, ap, _∙_, subst}
 use mathlib.Core.Bool.{Bool, true, false, cond}
 use mathlib.Core.List.{List, [], _∷_, _++_, map, append-nil}
 use mathlib.Core.Option.{Option, none, some, Option·some-ne-none}
 use Prim.Native.Nat.{ℕ, zero, suc, _+_, _-_, _*_, _<_, _^_}
 use native.Mathlib.Omega.{arith}
 use lib.Dec.{lit<}
-use lib.ListN.{length, getD, take, drop, set, replicate, List·getD-append}
+use lib.ListN.{length, getD, drop, set, replicate, List·getD-append}
 use lib.Seq.{getD-take}
 use Rattle.density.specs.declared.Site.{Site}
 use Rattle.density.specs.Network.{noSite, siteAt}
 use Rattle.records.specs.declared.Edition.{Edition}
 use Rattle.records.specs.Bytes.{Bytes}
 use Rattle.records.specs.Record.{records}
+use Rattle.records.specs.Values.{rollArray}
 use Rattle.density.specs.Rows.{firstRow}
 use Rattle.records.specs.Write.{All}
-use Rattle.records.specs.Format.{edition1, siteSize, siteCount, siteOf, sitesOf, shareSize, groupCount, bodyOf}
+use Rattle.records.specs.Format.{edition1, siteSize, siteCount, siteOf, sitesOf, rollOf, shareSize, groupCount, bodyOf}
 use Rattle.records.proofs.Bytes.{bytes-take, bytes-drop, field-small}
 use Rattle.store.specs.declared.Request.{Request}
 use Rattle.store.specs.declared.Request.the-variants.{Load, Change, Add, Propose, Share, Depot, Difference, Written, AtLeast, ListWritten}
 use Rattle.store.specs.Calls.{Call, Event, called, migrate, Reply}
-use Rattle.store.specs.Model.{withLitres, Possible}
+use Rattle.store.specs.Model.{withLitres, siteFrom, Possible}
 use Rattle.store.specs.Widths.{Named, NamedIn, AllNamed, Fits, SitesFit}
 use Rattle.held_state.specs.Held.{State, listOf, planHeld, corrupt}
 use Rattle.held_state.proofs.Intact.{Intact, sized, intact→}
 use Rattle.store.specs.State.{Done, bare, holding, refusal, effectOf, settle, step, migrateRow, migrateStep, stepOn}
 use Rattle.store.specs.Trace.{Run, start, then, Goes, InBytes, AllBytes, Traced, tracedOn, traced}
+use Rattle.store.proofs.Steps.{unrolled, read-whole}
 
 -- ---- a property of what stands at a place
 
@@ -94,16 +96,19 @@ module _ (m : ℕ) (s : State) (h : Fits m s) (c : Call) (bytes : Bytes (c .inpu
             (bytes-drop 4 (c .input) bytes) i)
             (h .litres i l);
         shares = zeros;
+        roll = λ k. ap rollArray (unrolled (s .edition) (rollOf (s .edition) (c .input)) (read-whole (s .edition) (c .input)) k);
       }
   effect-fits (Change j w) n =
       record {
         litres = λ i l. set-at Litres noSite (s .table) j i (withLitres (siteAt (listOf s) j) w) n (h .litres i l);
         shares = zeros;
+        roll = h .roll;
       }
   effect-fits (Add f d w) n =
       record {
-        litres = λ i l. set-at Litres noSite (s .table) (s .store .count) i (record { first = f; second = d; litres = w }) n (h .litres i l);
+        litres = λ i l. set-at Litres noSite (s .table) (s .store .count) i (siteFrom f d w) n (h .litres i l);
         shares = zeros;
+        roll = h .roll;
       }
   effect-fits Propose n =
       let w = s .edition .share in
@@ -115,6 +120,7 @@ module _ (m : ℕ) (s : State) (h : Fits m s) (c : Call) (bytes : Bytes (c .inpu
             filled-at Narrow 0 (below w) read (512 - length read) i
             (read-at Narrow 0 (bodyOf w) (λ r b. field-small r 2 w b) (below w) (shareSize (s .edition)) (s .store .count) (drop at (c .input))
             (bytes-drop at (c .input) bytes) i);
+        roll = h .roll;
       }
   effect-fits (Share i) n = h
   effect-fits (Depot d) n = h
@@ -153,7 +159,7 @@ module _ {e : Edition} (s : State) (h : SitesFit e s) (c : Call) (bytes : Bytes 
   effect-sites (Add f d w) n =
       record {
         edition = h .edition;
-        litres = one-more-at Wide noSite (s .table) (s .store .count) (record { first = f; second = d; litres = w }) n (below (s .edition .litres)) (h .litres);
+        litres = one-more-at Wide noSite (s .table) (s .store .count) (siteFrom f d w) n (below (s .edition .litres)) (h .litres);
       }
   effect-sites Propose n = record { edition = h .edition; litres = h .litres }
   effect-sites (Share i) n = h
@@ -186,7 +192,7 @@ module _ (s : State) (h : SitesFit edition1 s) (table : List Site) where
       let below : i < length (listOf s .sites) = omega (arith, sized s (k .room)) in
       rw (List·getD-append (listOf s .sites) (drop (s .store .count) table) noSite i below, getD-take (s .store .count) (s .table) i noSite l) (omega arith)
 
-  carried-count : (x : Bool) → cond x (holding (s .store) (planHeld s)) (bare (s .store .count)) .count ≡ s .store .count
+  carried-count : (x : Bool) → cond x (holding (bare (s .store .count) (rollArray none)) (planHeld s)) (bare (s .store .count) (rollArray none)) .count ≡ s .store .count
   carried-count true = refl
   carried-count false = refl
 

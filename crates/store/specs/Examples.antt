@@ -1,5 +1,5 @@
 -- Document 01: histories of T, of two own sites of 4 and of two sites of one pair on a table of two places, with their replies, the rows of every call
--- among them. Document 02, a: a history of thresholds; b: one of lists written out; c: one of edition 2; e: one that goes over to edition 2.
+-- among them. Document 02, a: a history of thresholds; b: one of lists written out; c: one of edition 2; e: one that goes over to edition 2; g: one of crews.
 use mathlib.Core.List.{List, [], _∷_, _++_, map}
 use mathlib.Core.Option.{Option, none, some}
 use Prim.Native.Nat.{ℕ}
@@ -11,7 +11,7 @@ use Rattle.density.specs.Examples.{pair, own}
 use Rattle.records.specs.Values.{Plan}
 use Rattle.records.specs.declared.Edition.{Edition}
 use Rattle.records.specs.Format.{edition1, edition2}
-use Rattle.records.specs.Samples.{listT, planT, listBig, planBig}
+use Rattle.records.specs.Samples.{listT, planT, listBig, planBig, crewsThreeOne, Rolled, listWith, listRolled, planOfRolled}
 use Rattle.judge.specs.Refusals.{group, share}
 use Rattle.store.specs.declared.Request.{Request}
 use Rattle.store.specs.declared.Request.the-variants.{Load, Change, Add, Propose, Share, Depot, Difference, Written, AtLeast, ListWritten}
@@ -28,10 +28,14 @@ events = map called
 abbrev pub reply : Told → List ℕ → Reply
 reply a o = record { answer = a; buffer = o }
 
-abbrev pub modelBy : Edition → List Site → Option Plan → Model
-modelBy e l p = record { edition = e; places = 2; list = record { sites = l }; plan = p }
+-- a list without a roll
+abbrev pub plain : List Site → Listing
+plain sites = record { sites = sites; roll = none }
 
-abbrev pub model : List Site → Option Plan → Model
+abbrev pub modelBy : Edition → Listing → Option Plan → Model
+modelBy e l p = record { edition = e; places = 2; list = l; plan = p }
+
+abbrev pub model : Listing → Option Plan → Model
 model l p = modelBy edition1 l p
 
 -- ---- T: its list, its plan, and the same with s = 11, where both shares add up to the whole and are not level
@@ -64,13 +68,13 @@ repliesT =
     ∷ []
 
 abbrev pub sitesT : Listing
-sitesT = record { sites = pair 0 1 10 ∷ [] }
+sitesT = plain (pair 0 1 10 ∷ [])
 
 abbrev pub loadedT : Model
-loadedT = model (sitesT .sites) none
+loadedT = model sitesT none
 
 abbrev pub plannedT : Model
-plannedT = model (sitesT .sites) (some (record { groups = 3 ∷ []; shares = 10 ∷ [] }))
+plannedT = model sitesT (some (record { groups = 3 ∷ []; shares = 10 ∷ [] }))
 
 -- ---- own 0 and own 1 of 4: groups {0}, {1} are level, and do not fall; {0,1} is the plan, and a change that changes nothing drops it
 
@@ -92,13 +96,13 @@ abbrev pub repliesO : List Reply
 repliesO = reply done [] ∷ reply (refused 16) [] ∷ reply (refused 17) [] ∷ reply done [] ∷ reply done [] ∷ reply (refused 17) [] ∷ []
 
 abbrev pub sitesO : Listing
-sitesO = record { sites = own 0 4 ∷ own 1 4 ∷ [] }
+sitesO = plain (own 0 4 ∷ own 1 4 ∷ [])
 
 abbrev pub loadedO : Model
-loadedO = model (sitesO .sites) none
+loadedO = model sitesO none
 
 abbrev pub plannedO : Model
-plannedO = model (sitesO .sites) (some (record { groups = 3 ∷ []; shares = 8 ∷ 8 ∷ [] }))
+plannedO = model sitesO (some (record { groups = 3 ∷ []; shares = 8 ∷ 8 ∷ [] }))
 
 -- ---- (0,1) of 1 twice, which has several plans: two pass, and shares and the plan written out are those of the second
 
@@ -123,13 +127,13 @@ repliesP =
     reply done [] ∷ reply done [] ∷ reply done [] ∷ reply (shared 0 2) [] ∷ reply (wrote 27) (planP 0x00 0x02 ++ (7 ∷ [])) ∷ []
 
 abbrev pub sitesP : Listing
-sitesP = record { sites = pair 0 1 1 ∷ pair 0 1 1 ∷ [] }
+sitesP = plain (pair 0 1 1 ∷ pair 0 1 1 ∷ [])
 
 abbrev pub loadedP : Model
-loadedP = model (sitesP .sites) none
+loadedP = model sitesP none
 
 abbrev pub plannedP : ℕ → ℕ → Model
-plannedP x y = model (sitesP .sites) (some (record { groups = 3 ∷ []; shares = x ∷ y ∷ [] }))
+plannedP x y = model sitesP (some (record { groups = 3 ∷ []; shares = x ∷ y ∷ [] }))
 
 -- ---- the rows of the calls: T on a desk of two places; where two rows apply, the first is given
 
@@ -199,13 +203,13 @@ repliesM =
     ∷ map (λ (x : ℕ). reply (reached x) []) setsM
 
 abbrev pub sitesM : Listing
-sitesM = record { sites = pair 0 1 9 ∷ pair 1 2 1 ∷ [] }
+sitesM = plain (pair 0 1 9 ∷ pair 1 2 1 ∷ [])
 
 abbrev pub loadedM : Model
-loadedM = model (sitesM .sites) none
+loadedM = model sitesM none
 
 abbrev pub plannedM : Model
-plannedM = model (sitesM .sites) (some (record { groups = 3 ∷ 4 ∷ []; shares = 9 ∷ 0 ∷ [] }))
+plannedM = model sitesM (some (record { groups = 3 ∷ 4 ∷ []; shares = 9 ∷ 0 ∷ [] }))
 
 -- ---- the list written out: of no sites, of T without a plan and with one, and of T and a site more; each in a buffer that is filled with 7
 
@@ -241,7 +245,7 @@ repliesL =
     ∷ []
 
 abbrev pub addedL : Model
-addedL = model (pair 0 1 10 ∷ pair 0 1 513 ∷ []) none
+addedL = model (plain (pair 0 1 10 ∷ pair 0 1 513 ∷ [])) none
 
 -- ---- edition 2: "A desk takes lists and plans of its own edition only; row 1 or row 7 refuses the other", and "its litres come as a 32-bit figure"
 
@@ -279,16 +283,16 @@ repliesB =
     ∷ []
 
 abbrev pub sitesB : Listing
-sitesB = record { sites = pair 0 1 70000 ∷ [] }
+sitesB = plain (pair 0 1 70000 ∷ [])
 
 abbrev pub loadedB : Model
-loadedB = modelBy edition2 (sitesB .sites) none
+loadedB = modelBy edition2 sitesB none
 
 abbrev pub plannedB : Model
-plannedB = modelBy edition2 (sitesB .sites) (some (record { groups = 3 ∷ []; shares = 70000 ∷ [] }))
+plannedB = modelBy edition2 sitesB (some (record { groups = 3 ∷ []; shares = 70000 ∷ [] }))
 
 abbrev pub addedB : Model
-addedB = modelBy edition2 (pair 0 1 70000 ∷ own 1 4294967295 ∷ []) none
+addedB = modelBy edition2 (plain (pair 0 1 70000 ∷ own 1 4294967295 ∷ [])) none
 
 -- ---- T goes over to edition 2 with its plan: a new table without places has too few, one of three has them; figures are as before, what is written out is in edition 2, lists
 -- and plans of edition 1 are refused, and litres have 32 bits
@@ -345,7 +349,70 @@ abbrev pub overT : Model
 overT = migratedModel plannedT 3
 
 abbrev pub addedE : List Site → Model
-addedE more = record { edition = edition2; places = 3; list = record { sites = pair 0 1 10 ∷ more }; plan = none }
+addedE more = record { edition = edition2; places = 3; list = plain (pair 0 1 10 ∷ more); plan = none }
+
+-- ---- crews, in edition 2: (0,1) of 12 litres, where depot 0 has three crews and depot 1 one
+
+abbrev pub planC : ℕ → List ℕ
+planC x = 0x50 ∷ 0x32 ∷ 0x01 ∷ 0x01 ∷ 0x00 ∷ group 0x03 (0x53 ∷ 0x33 ∷ x ∷ 0x00 ∷ 0x00 ∷ 0x00 ∷ 0x00 ∷ 0x00 ∷ 0x00 ∷ 0x00 ∷ [])
+
+-- the list with a roll that has these bytes for depots 0 and 1, and none for the others
+abbrev pub listCrewed : ℕ → ℕ → List ℕ
+listCrewed x y = listWith (0x44 ∷ 0x52 ∷ x ∷ y ∷ replicate 62 0)
+
+-- A roll byte of 10, and depot 1 without a crew: row 22 comes first. s = 24 is level where each depot has one crew. Depot 2 has none. A site more leaves the roll, a list without one drops it.
+abbrev pub callsC : List Call
+callsC =
+    call Load (listCrewed 10 0) []
+    ∷ call Load (listCrewed 3 0) []
+    ∷ call Load listRolled []
+    ∷ call Propose (planC 24) []
+    ∷ call Propose (planC 36) []
+    ∷ call (Depot 0) [] []
+    ∷ call (Share 0) [] []
+    ∷ call (Add 0 2 5) [] []
+    ∷ call (Add 0 1 5) [] []
+    ∷ call (Depot 0) [] []
+    ∷ call ListWritten [] (replicate 87 7)
+    ∷ call Load (listWith []) []
+    ∷ []
+
+-- the list with the site that was added, and its roll
+abbrev pub listC : List ℕ
+listC =
+    0x4C ∷ 0x32 ∷ 0x02 ∷ 0x00
+    ∷ 0x53 ∷ 0x32 ∷ 0x00 ∷ 0x01 ∷ 0x0C ∷ 0x00 ∷ 0x00 ∷ 0x00
+    ∷ 0x53 ∷ 0x32 ∷ 0x00 ∷ 0x01 ∷ 0x05 ∷ 0x00 ∷ 0x00 ∷ 0x00
+    ∷ 0x44 ∷ 0x52 ∷ crewsThreeOne
+
+abbrev pub repliesC : List Reply
+repliesC =
+    reply (refused 22) []
+    ∷ reply (refused 23) []
+    ∷ reply done []
+    ∷ reply (refused 15) []
+    ∷ reply done []
+    ∷ reply (loaded 12 4) []
+    ∷ reply (shared 36 48) []
+    ∷ reply (refused 23) []
+    ∷ reply done []
+    ∷ reply (refused 17) []
+    ∷ reply (wrote 86) (listC ++ (7 ∷ []))
+    ∷ reply done []
+    ∷ []
+
+abbrev pub loadedC : Model
+loadedC = modelBy edition2 Rolled none
+
+abbrev pub plannedC : Model
+plannedC = modelBy edition2 Rolled (some planOfRolled)
+
+abbrev pub addedC : Model
+addedC = modelBy edition2 (record { sites = pair 0 1 12 ∷ pair 0 1 5 ∷ []; roll = some crewsThreeOne }) none
+
+-- the list without a roll
+abbrev pub unrolledC : Model
+unrolledC = modelBy edition2 (plain (Rolled .sites)) none
 
 -- the answer to the i-th call, and its buffer
 abbrev pub nth : ℕ → List Reply → Told

@@ -9,19 +9,20 @@ use lib.Dec.{eqb, leb, ltb}
 use lib.ListN.{length, getD, set}
 use Rattle.sets.specs.Set.{setOf}
 use Rattle.density.specs.declared.Site.{Site}
-use Rattle.density.specs.Network.{Listing, network, siteAt}
+use Rattle.density.specs.Network.{Listing, network, siteAt, uncrewed}
 use Rattle.density.specs.Rows.{Row, row, firstRow, planRows}
 use Rattle.density.specs.Figures.{depotLitres, depotSize, siteWhole, difference, divisor, atLeast}
 use Rattle.records.specs.declared.Edition.{Edition}
 use Rattle.records.specs.Values.{Plan}
-use Rattle.records.specs.Format.{edition1, edition2, listRows, sitesOf, layoutRows, planOf}
+use Rattle.records.specs.Format.{edition1, edition2, listRows, listingOf, layoutRows, planOf}
 use Rattle.records.specs.Write.{listBytes, planBytes, isShort}
 use Rattle.judge.specs.Check.{True}
 use Rattle.store.specs.declared.Request.{Request}
 use Rattle.store.specs.declared.Request.the-variants.{Load, Change, Add, Propose, Share, Depot, Difference, Written, AtLeast, ListWritten}
 use Rattle.store.specs.Calls.{Call, Event, called, migrate, Reply, same, putOut, unbuffered, refused, done, shared, loaded, differ, reached}
 
--- "It has a list, at first without sites, and a plan, at first none"; it "is fed the number of table places".
+-- "It has a list, at first without sites, and a plan, at first none"; it "is fed the number of table places". Document 02, g: "its list includes the roll, or the lack
+-- of one."
 pub record Model : Type 0 where
   pub edition : Edition
   pub places : ℕ
@@ -29,11 +30,19 @@ pub record Model : Type 0 where
   pub plan : Option Plan
 
 abbrev pub emptyModel : Edition → ℕ → Model
-emptyModel e n = record { edition = e; places = n; list = record { sites = [] }; plan = none }
+emptyModel e n = record { edition = e; places = n; list = record { sites = []; roll = none }; plan = none }
 
 -- "its plan is none", with another list
-abbrev pub listed : Model → List Site → Model
-listed b sites = record { edition = b .edition; places = b .places; list = record { sites = sites }; plan = none }
+abbrev pub listed : Model → Listing → Model
+listed b l = record { edition = b .edition; places = b .places; list = l; plan = none }
+
+-- the list with other sites; it keeps its roll, or the lack of one
+abbrev pub withSites : Listing → List Site → Listing
+withSites l sites = record { sites = sites; roll = l .roll }
+
+-- the site that a call adds
+abbrev pub siteFrom : ℕ → ℕ → ℕ → Site
+siteFrom f s w = record { first = f; second = s; litres = w }
 
 -- "becomes the book's plan"
 abbrev pub planned : Model → Plan → Model
@@ -65,7 +74,7 @@ proposalRows e l bytes =
 abbrev pub rowsOf : Model → Call → Request → List Row
 rowsOf b c Load = listRows (b .edition) (b .places) (c .input)
 rowsOf b c (Change i w) = row 6 (eqb w 0) ∷ row 18 (leb (count b) i) ∷ []
-rowsOf b c (Add f s w) = row 2 (leb 512 (count b) || leb (b .places) (count b)) ∷ row 5 (ltb 63 f || ltb 63 s) ∷ row 6 (eqb w 0) ∷ []
+rowsOf b c (Add f s w) = row 2 (leb 512 (count b) || leb (b .places) (count b)) ∷ row 5 (ltb 63 f || ltb 63 s) ∷ row 6 (eqb w 0) ∷ row 23 (uncrewed (b .list .roll) (siteFrom f s w)) ∷ []
 rowsOf b c Propose = proposalRows (b .edition) (b .list) (c .input)
 rowsOf b c (Share i) = row 17 (missing (b .plan)) ∷ row 18 (leb (count b) i) ∷ []
 rowsOf b c (Depot d) = row 17 (missing (b .plan)) ∷ row 19 (unlisted b d) ∷ []
@@ -93,9 +102,9 @@ turned b r = record { after = b; reply = r }
 -- "w × q, W, q and the difference with its divisor follow from the definition on its list alone"; s is read from its plan. Document 02, a: "the set that follows from the
 -- definition on its list alone"; b: "its list and the length".
 abbrev pub grantOf : Model → Call → Request → Turn
-grantOf b c Load = turned (listed b (sitesOf (b .edition) (c .input))) (same c done)
-grantOf b c (Change i w) = turned (listed b (set (b .list .sites) i (withLitres (siteAt (b .list) i) w))) (same c done)
-grantOf b c (Add f s w) = turned (listed b (b .list .sites ++ (record { first = f; second = s; litres = w } ∷ []))) (same c done)
+grantOf b c Load = turned (listed b (listingOf (b .edition) (c .input))) (same c done)
+grantOf b c (Change i w) = turned (listed b (withSites (b .list) (set (b .list .sites) i (withLitres (siteAt (b .list) i) w)))) (same c done)
+grantOf b c (Add f s w) = turned (listed b (withSites (b .list) (b .list .sites ++ (siteFrom f s w ∷ [])))) (same c done)
 grantOf b c Propose = turned (planned b (planOf (b .edition) (count b) (c .input))) (same c done)
 grantOf b c (Share i) = turned b (same c (shared (getD (held (b .plan) .shares) i 0) (siteWhole (network (b .list)) i)))
 grantOf b c (Depot d) = turned b (same c (loaded (depotLitres (network (b .list)) d) (depotSize (network (b .list)) d)))

@@ -12,16 +12,17 @@ use Rattle.density.specs.Plan.{whole}
 use Rattle.density.specs.Rows.{row, firstRow, planRows}
 use Rattle.density.specs.Figures.{differenceOf, depotsRead}
 use Rattle.records.specs.declared.Edition.{Edition}
-use Rattle.records.specs.Values.{Plan}
+use Rattle.records.specs.Values.{Plan, rollArray}
 use Rattle.records.specs.Answer.{filled}
-use Rattle.records.specs.Format.{edition2, sitesOf, layoutRows, planOf}
+use Rattle.records.specs.Format.{edition2, sitesOf, rollOf, layoutRows, planOf}
 use Rattle.records.specs.Write.{listBytes, planBytes}
+use Rattle.records.specs.declared.RollArray.{RollArray}
 use Rattle.held_state.specs.declared.Store.{Store}
 use Rattle.held_state.specs.Held.{State, on, listOf, planHeld, corrupt, litresAt, sizeAt}
 use Rattle.store.specs.declared.Request.{Request}
 use Rattle.store.specs.declared.Request.the-variants.{Load, Change, Add, Propose, Share, Depot, Difference, Written, AtLeast, ListWritten}
 use Rattle.store.specs.Calls.{Call, Event, called, migrate, Reply, same, putOut, unbuffered, refused, done, shared, loaded, differ, reached}
-use Rattle.store.specs.Model.{Model, count, rowsOf, withLitres, migrateRows}
+use Rattle.store.specs.Model.{Model, count, rowsOf, withLitres, siteFrom, migrateRows}
 
 -- the list held, and the plan held or the lack of one
 abbrev pub modelOf : State → Model
@@ -65,17 +66,19 @@ rowFor b c ListWritten = firstRow (rowsOf b c ListWritten)
 abbrev pub refusal : State → Call → Option ℕ
 refusal s c = cond (triesZero (c .request) && corrupt s) (some 0) (rowFor (modelOf s) c (c .request))
 
--- "A fresh desk has no sites, no plan, and 512 places for shares, all zero. Its 64 places for groups are zero too."
-abbrev pub bare : ℕ → Store
-bare n = record { count = n; held = false; grouped = 0; groups = replicate 64 0; shares = replicate 512 0 }
+-- a store of n sites, with this roll or none, that holds no plan
+abbrev pub bare : ℕ → RollArray → Store
+bare n roll = record { count = n; held = false; grouped = 0; groups = replicate 64 0; shares = replicate 512 0; roll = roll }
 
+-- "A fresh desk has no sites, no plan, and 512 places for shares, all zero. Its 64 places for groups are zero too." Document 02, g: of rolls "a fresh desk and one turned by
+-- e) have none".
 abbrev pub fresh : Edition → List Site → State
-fresh e table = record { edition = e; store = bare 0; table = table }
+fresh e table = record { edition = e; store = bare 0 (rollArray none); table = table }
 
 -- "a plan that passes for the held list becomes the held plan, and group and share places beyond it become zero"
 abbrev pub holding : Store → Plan → Store
 holding s p =
-    record { count = s .count; held = true; grouped = length (p .groups); groups = filled 64 (p .groups) 0; shares = filled 512 (p .shares) 0 }
+    record { count = s .count; held = true; grouped = length (p .groups); groups = filled 64 (p .groups) 0; shares = filled 512 (p .shares) 0; roll = s .roll }
 
 -- The state after a call, and its reply.
 pub record Done : Type 0 where
@@ -109,15 +112,15 @@ Output s (AtLeast m) out = ⊥
 Output s ListWritten out = out ≡ listOut s
 
 -- What a call does that no row refuses. "success drops the plan, even if no figure differs, and sets its groups and share places to zero."
--- "Table places beyond the sites keep their content." Document 02, a: "reading ends at the first group below the mark"; b: "puts the
+-- "Table places beyond the sites keep their content." Document 02, g: the desk keeps the roll, or the lack of one, "of the list last loaded". a: "reading ends at the first group below the mark"; b: "puts the
 -- sites into a buffer as a list record by record".
 abbrev pub effectOf : State → Call → Request → Done
 effectOf s c Load =
     let sites = sitesOf (s .edition) (c .input) in
-    next s (bare (length sites)) (sites ++ drop (length sites) (s .table)) (same c done)
-effectOf s c (Change i w) = next s (bare (s .store .count)) (set (s .table) i (withLitres (siteAt (listOf s) i) w)) (same c done)
+    next s (bare (length sites) (rollArray (rollOf (s .edition) (c .input)))) (sites ++ drop (length sites) (s .table)) (same c done)
+effectOf s c (Change i w) = next s (bare (s .store .count) (s .store .roll)) (set (s .table) i (withLitres (siteAt (listOf s) i) w)) (same c done)
 effectOf s c (Add f d w) =
-    next s (bare (s .store .count + 1)) (set (s .table) (s .store .count) (record { first = f; second = d; litres = w })) (same c done)
+    next s (bare (s .store .count + 1) (s .store .roll)) (set (s .table) (s .store .count) (siteFrom f d w)) (same c done)
 effectOf s c Propose = next s (holding (s .store) (planOf (s .edition) (s .store .count) (c .input))) (s .table) (same c done)
 effectOf s c (Share i) = stays s (same c (shared (getD (s .store .shares) i 0) (whole (network (listOf s)) (planHeld s .groups) i)))
 effectOf s c (Depot d) = stays s (same c (loaded (litresAt s d) (sizeAt s d)))
@@ -141,9 +144,11 @@ RefusedBy s c n = step s c ≡ stays s (same c (refused n))
 
 -- ---- document 02, e: the step to edition 2
 
--- "Sites, the held plan and the lack of one carry over, group and share places beyond them are zero"
+-- "Sites, the held plan and the lack of one carry over, group and share places beyond them are zero"; of rolls "one turned by e)" has none
 abbrev pub carried : State → Store
-carried s = cond (s .store .held) (holding (s .store) (planHeld s)) (bare (s .store .count))
+carried s =
+    let empty = bare (s .store .count) (rollArray none) in
+    cond (s .store .held) (holding empty (planHeld s)) empty
 
 -- the store of edition 2 over the new table; document 01: "Table places beyond the sites keep their content"
 abbrev pub migrated : State → List Site → State

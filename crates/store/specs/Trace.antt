@@ -17,7 +17,7 @@ use Rattle.records.specs.declared.Edition.{Edition}
 use Rattle.records.specs.Bytes.{Bytes}
 use Rattle.records.specs.Values.{Plan}
 use Rattle.records.specs.Outcome.{passed}
-use Rattle.records.specs.Format.{edition1, edition2, readList, planOf}
+use Rattle.records.specs.Format.{edition1, edition2, rollOf, readList, planOf}
 use Rattle.records.specs.Write.{listBytes, planBytes, onto, isShort, All}
 use Rattle.store.specs.declared.Request.{Request}
 use Rattle.store.specs.declared.Request.the-variants.{Load, Change, Add, Propose, Share, Depot, Difference, Written, AtLeast, ListWritten}
@@ -91,21 +91,38 @@ leaves Written p a o = o
 leaves (AtLeast m) p a o = o
 leaves ListWritten p a o = o
 
--- The edition; the places of the table; and the proposal that passed last, if no load, change or add has succeeded since.
+-- Document 02, g: the desk "keeps the roll, or the lack of one, of the list last loaded": the roll after a call whose input would be loaded with this one
+abbrev pub rollLeft : Request → Option (List ℕ) → Told → Option (List ℕ) → Option (List ℕ)
+rollLeft Load r a o = cond (ended a) r o
+rollLeft (Change i w) r a o = o
+rollLeft (Add f x w) r a o = o
+rollLeft Propose r a o = o
+rollLeft (Share i) r a o = o
+rollLeft (Depot d) r a o = o
+rollLeft (Difference d e) r a o = o
+rollLeft Written r a o = o
+rollLeft (AtLeast m) r a o = o
+rollLeft ListWritten r a o = o
+
+-- The edition; the places of the table; the proposal that passed last, if no load, change or add has succeeded since; and the roll, or the lack of one, of the list
+-- last loaded.
 pub record Traced : Type 0 where
   pub edition : Edition
   pub places : ℕ
   pub proposal : Option Proposal
+  pub roll : Option (List ℕ)
 
--- A call may change the last alone. The step to edition 2 "where it succeeds" keeps the plan, "now in edition 2, from there on with the new table and its places".
+-- A call may change the last two alone. The step to edition 2 "where it succeeds" keeps the plan, "now in edition 2, from there on with the new table and its places";
+-- of rolls "a fresh desk and one turned by e) have none".
 abbrev pub tracedOn : Event → Told → Traced → Traced
 tracedOn (called c) a t =
     record {
       edition = t .edition;
       places = t .places;
       proposal = leaves (c .request) (record { edition = t .edition; bytes = c .input }) a (t .proposal);
+      roll = rollLeft (c .request) (rollOf (t .edition) (c .input)) a (t .roll);
     }
-tracedOn (migrate table) a t = cond (ended a) (record { edition = edition2; places = length table; proposal = t .proposal }) t
+tracedOn (migrate table) a t = cond (ended a) (record { edition = edition2; places = length table; proposal = t .proposal; roll = none }) t
 
 unfoldable pub traced : Traced → List Event → List Reply → Traced
 traced t [] rs = t
@@ -114,7 +131,7 @@ traced t (v ∷ vs) (r ∷ rs) = traced (tracedOn v (r .answer) t) vs rs
 
 -- from the start of a history on
 abbrev pub begun : Edition → List Site → Traced
-begun e table = record { edition = e; places = length table; proposal = none }
+begun e table = record { edition = e; places = length table; proposal = none; roll = none }
 
 abbrev pub trace : Edition → List Site → List Event → List Reply → Traced
 trace e table = traced (begun e table)
@@ -209,6 +226,9 @@ pub record Exact (e : Edition) (table : List Site) (events : List Event) (replie
   pub tidy : Tidy s
   pub edition : s .edition ≡ trace e table events replies .edition
   pub sized : length (s .table) ≡ trace e table events replies .places
+  -- document 02, g: the roll, or the lack of one, is that of the list last loaded; an edition without rolls has none
+  pub roll : modelOf s .list .roll ≡ trace e table events replies .roll
+  pub unrolled : s .edition .roll ≡ false → modelOf s .list .roll ≡ none
   -- "the plan held, or the lack of one, are then the book's": it is that of the proposal that passed last, and is true of the list held
   pub plan-held : modelOf s .plan ≡ planFrom (count (modelOf s)) (trace e table events replies .proposal)
   pub plan-true : (p : Proposal) → trace e table events replies .proposal ≡ some p → True (p .edition) (modelOf s .list) (proposedPlan (count (modelOf s)) p) (p .bytes)

@@ -1,10 +1,13 @@
 -- Document 01, "Entry points", the desk: widths of figures. "Litres in a change or an added site are a 16-bit figure"; document 02, c: of edition 2 "its litres come as a 32-bit figure".
 use mathlib.Core.Path.{_≡_}
+use mathlib.Core.Bool.{false}
 use mathlib.Core.List.{List, [], _∷_}
+use mathlib.Core.Option.{none}
 use Prim.Native.Nat.{ℕ, _<_, _≤_, _^_}
 use lib.ListN.{getD}
 use Rattle.density.specs.Network.{noSite}
 use Rattle.records.specs.declared.Edition.{Edition}
+use Rattle.records.specs.Values.{rollArray}
 use Rattle.held_state.specs.Held.{State}
 use Rattle.store.specs.declared.Request.{Request}
 use Rattle.store.specs.declared.Request.the-variants.{Load, Change, Add, Propose, Share, Depot, Difference, Written, AtLeast, ListWritten}
@@ -43,10 +46,11 @@ Fitting e = (e .litres ≤ 4) × (e .share ≤ 8)
 abbrev pub PlacesFit : ℕ → State → Type 0
 PlacesFit m s = (i : ℕ) → i < m → getD (s .table) i noSite .litres < 256 ^ s .edition .litres
 
--- so they have, and all shares theirs
+-- so they have, all shares have theirs, and there is no roll where the edition has none
 pub record Fits (m : ℕ) (s : State) : Type 0 where
   pub litres : PlacesFit m s
   pub shares : (i : ℕ) → getD (s .store .shares) i 0 < 256 ^ s .edition .share
+  pub roll : s .edition .roll ≡ false → s .store .roll ≡ rollArray none
 
 -- a state of the edition, and the litres of the sites held have its width
 pub record SitesFit (e : Edition) (s : State) : Type 0 where

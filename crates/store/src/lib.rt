@@ -4,7 +4,7 @@ use held_state::Store;
 
 pub mod decide;
 
-// What a call asks for. The number of `AtLeast` is a threshold in litres per depot (document 02: a mark). `Written` is the plan written out, `ListWritten` the list (document 02, b).
+// What a call asks for. The number of `AtLeast` is a threshold in litres per crew (document 02: a mark). `Written` is the plan written out, `ListWritten` the list (document 02, b).
 pub enum Request {
     Load,
     Change(usize, u32),

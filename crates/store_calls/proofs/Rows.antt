@@ -1,12 +1,17 @@
 -- The rows of a change, of another site and of the step to edition 2, test by test. Assumes nothing.
-use mathlib.Core.Path.{_≡_, sym}
-use mathlib.Core.Bool.{true, false, _||_}
+use mathlib.Core.Path.{_≡_, sym, ap, _∙_}
+use mathlib.Core.Bool.{Bool, true, false, _||_}
+use mathlib.Core.List.{List}
+use mathlib.Core.Option.{Option}
 use Prim.Native.Nat.{ℕ, _≤_, _<_}
 use borrow.Author.Tests.{lt-ltb, le-ltb, le-leb, lt-leb, eq-eqb, ne-eqb}
 use lib.Dec.{leb, ltb}
 use lib.ListN.{length}
 use Rattle.density.specs.declared.Site.{Site}
+use Rattle.density.specs.Network.{uncrewed}
 use Rattle.density.specs.Rows.{firstRow}
+use Rattle.records.specs.declared.RollArray.{RollArray}
+use Rattle.records.specs.Values.{rollIn}
 use Rattle.tables.specs.declared.Verdict.{Verdict}
 use Rattle.tables.specs.declared.Verdict.the-variants.{Passes, Refused}
 use Rattle.tables.specs.Verdict.{verdict}
@@ -51,9 +56,17 @@ module _ (b : Model) (c : Call) (count : ℕ) (n : length (b .list .sites) ≡ c
         unfolding firstRow
         add-litres z = sym (rw (n, m, t, u, eq-eqb (x .litres) 0 z))
 
-        pub add-passes : (x .litres ≡ 0 → ⊥) → rowIs Passes request
-        unfolding firstRow
-        add-passes z = sym (rw (n, m, t, u, ne-eqb (x .litres) 0 z))
+        module _ (z : x .litres ≡ 0 → ⊥) (roll : RollArray) (o : b .list .roll ≡ rollIn roll) where
+          crews : {v : Bool} → uncrewed (rollIn roll) x ≡ v → uncrewed (b .list .roll) x ≡ v
+          crews h = ap (λ (r : Option (List ℕ)). uncrewed r x) o ∙ h
+
+          pub add-uncrewed : uncrewed (rollIn roll) x ≡ true → rowIs (Refused 23) request
+          unfolding firstRow
+          add-uncrewed v = sym (rw (n, m, t, u, ne-eqb (x .litres) 0 z, crews v))
+
+          pub add-passes : uncrewed (rollIn roll) x ≡ false → rowIs Passes request
+          unfolding firstRow
+          add-passes v = sym (rw (n, m, t, u, ne-eqb (x .litres) 0 z, crews v))
 
 -- Document 02, e: "a new table with too few places gives row 2".
 module _ (b : Model) (count : ℕ) (n : length (b .list .sites) ≡ count) (places : ℕ) where

@@ -29,7 +29,7 @@ use Rattle.held_state.specs.Held.{State, listOf, corrupt}
 use Rattle.held_state.proofs.Intact.{intact→, sized}
 use Rattle.store.specs.declared.Request.the-variants.{Change, Add, Propose}
 use Rattle.store.specs.Calls.{Call, migrate, same, unbuffered, refused as row, done}
-use Rattle.store.specs.Model.{rowsOf, withLitres, migrateRows}
+use Rattle.store.specs.Model.{rowsOf, withLitres, siteFrom, migrateRows}
 use Rattle.store.specs.State.{modelOf, planRow, firstOf, bare, holding, next, stays, step, migrated, migrateStep, stepOn, RefusedBy}
 use Rattle.store.proofs.Migrate.{migrate-sound}
 use Rattle.store.proofs.Plans.{settle-refused, settle-passed}
@@ -117,7 +117,7 @@ module _ (s : State) (c : Call) where
     change-refused i w n q h = refused-step s c n (row-is s c z (Change i w) q ∙ verdict-refused _ n h)
 
     pub change-passed : (i w : ℕ) → c .request ≡ Change i w → verdict (firstRow (rowsOf (modelOf s) c (Change i w))) ≡ Passes
-        → (step s c ≡ next s (bare (s .store .count)) (set (s .table) i (withLitres (siteAt (listOf s) i) w)) (same c done)) × (i < s .store .count)
+        → (step s c ≡ next s (bare (s .store .count) (s .store .roll)) (set (s .table) i (withLitres (siteAt (listOf s) i) w)) (same c done)) × (i < s .store .count)
     change-passed i w q h =
         let o = verdict-passes _ h in
         let k = none-clear (rowsOf (modelOf s) c (Change i w)) o in
@@ -128,7 +128,7 @@ module _ (s : State) (c : Call) where
     add-refused f d w n q h = refused-step s c n (row-is s c z (Add f d w) q ∙ verdict-refused _ n h)
 
     pub add-passed : (f d w : ℕ) → c .request ≡ Add f d w → verdict (firstRow (rowsOf (modelOf s) c (Add f d w))) ≡ Passes
-        → (step s c ≡ next s (bare (s .store .count + 1)) (set (s .table) (s .store .count) (record { first = f; second = d; litres = w })) (same c done))
+        → (step s c ≡ next s (bare (s .store .count + 1) (s .store .roll)) (set (s .table) (s .store .count) (siteFrom f d w)) (same c done))
         × (s .store .count < 512)
         × (s .store .count < length (s .table))
     add-passed f d w q h =

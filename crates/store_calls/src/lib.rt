@@ -7,7 +7,9 @@ use held_state::examine;
 use held_state::figures_of;
 use records::Edition;
 use records::ListArray;
+use records::RollArray;
 use records::Wrote;
+use records::roll;
 use records::scan;
 use store::Answer;
 use store::Request;
@@ -23,6 +25,7 @@ ghost use Rattle.density.specs.Rows.{firstRow};
 ghost use Rattle.density.specs.Figures.{differenceOf};
 ghost use Rattle.records.specs.declared.ListArray.{ListArray};
 ghost use Rattle.records.specs.declared.PlanArray.{PlanArray};
+ghost use Rattle.records.specs.Values.{rollIn};
 ghost use Rattle.tables.specs.Verdict.{verdict};
 ghost use Rattle.tables.specs.Tables.{net, Kept};
 ghost use Rattle.held_state.specs.Held.{State};
@@ -49,9 +52,9 @@ pub fn change_row(count: usize, i: usize, w: u32) -> Verdict
     Verdict::Passes
 }
 
-// The row that refuses another site, at a store of so many sites with a table of so many places.
-pub fn add_row(count: usize, places: usize, x: Site) -> Verdict
-    ensures { λ r. ⌜ ((b : Model) (c : Call) → length (b .list .sites) ≡ count → b .places ≡ places → r ≡ verdict (firstRow (rowsOf b c (request.Add (x .first) (x .second) (x .litres))))) ⌝ }
+// The row that refuses another site, at a store of so many sites with a table of so many places, whose list has this roll or none.
+pub fn add_row(count: usize, places: usize, roll: RollArray, x: Site) -> Verdict
+    ensures { λ r. ⌜ ((b : Model) (c : Call) → length (b .list .sites) ≡ count → b .places ≡ places → b .list .roll ≡ rollIn roll → r ≡ verdict (firstRow (rowsOf b c (request.Add (x .first) (x .second) (x .litres))))) ⌝ }
 {
     if scan::either(512 <= count, places <= count) {
         return Verdict::Refused(2);
@@ -61,6 +64,9 @@ pub fn add_row(count: usize, places: usize, x: Site) -> Verdict
     }
     if x.litres == 0 {
         return Verdict::Refused(6);
+    }
+    if roll::is_uncrewed(roll, x) {
+        return Verdict::Refused(23);
     }
     Verdict::Passes
 }

@@ -9,7 +9,7 @@ use lib.Dec.{T, lit≤}
 use lib.ListN.{length, take, drop}
 use lib.Seq.{take-append-seam}
 use Rattle.density.specs.declared.Site.{Site}
-use Rattle.density.specs.Network.{Listing, noSite, siteAt, depotsInRange}
+use Rattle.density.specs.Network.{Listing, noSite, siteAt, inRange}
 use Rattle.density.specs.Rows.{firstRow, row}
 use Rattle.records.specs.declared.Edition.{Edition}
 use Rattle.records.specs.Bytes.{Bytes}
@@ -95,7 +95,7 @@ module _ {e : Edition} (m : Marked e) {table : List Site} {events : List Event} 
   few : length (l .sites) ≤ 512
   few = rw (sized s (sound .room)) (sound .few)
 
-  in-range : T (depotsInRange l)
+  in-range : T (inRange l)
   in-range = good-range l (sound .good)
 
   over-holds : Holds s'
@@ -115,7 +115,7 @@ module _ {e : Edition} (m : Marked e) {table : List Site} {events : List Event} 
     list-taken : listFor upgrade (take n (r .buffer)) ≡ passed l
     list-taken =
         up-taken (take n (r .buffer))
-        ∙ subst (λ (e : Edition). readList e 512 (take n (r .buffer)) ≡ passed l) (x .0) (list-round-trip s (history-marked m h bytes) fit .reads c r t n 512 k y a few)
+        ∙ subst (λ (e : Edition). readList e 512 (take n (r .buffer)) ≡ passed l) (x .0) (list-round-trip s (history-marked m h bytes) fit (holds .roll) .reads c r t n 512 k y a few)
 
     list-made : (out : List ℕ) → convertList upgrade (take n (r .buffer)) out ≡ fitted (listBytes edition2 l) out
     list-made out = rw list-taken refl
@@ -147,7 +147,7 @@ module _ {e : Edition} (m : Marked e) {table : List Site} {events : List Event} 
       by (some p) z = (
         proposedPlan (count (modelOf s)) p,
         now-exact .plan-held ∙ ap (planFrom (count (modelOf s))) z,
-        true-over (p .edition) edition1 l (proposedPlan (count (modelOf s)) p) (lit≤ tt)
+        true-over (p .edition) edition1 l in-range (proposedPlan (count (modelOf s)) p) (lit≤ tt)
             (λ i j. subst (λ (e : Edition). siteAt l i .litres < 256 ^ e .litres) (x .0) (all-at (Good (s .edition)) noSite (l .sites) (held-good s sound fit) i j .fits))
             (now-exact .plan-true p z),
       )

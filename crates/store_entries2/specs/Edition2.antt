@@ -1,8 +1,10 @@
 -- Edition 2: its store, table and requests are the definition's.
 use mathlib.Core.List.{List}
+use mathlib.Core.Option.{none}
 use Prim.Native.Nat.{ℕ}
 use Rattle.density.specs.declared.Site.{Site}
 use Rattle.records.specs.Format.{edition2}
+use Rattle.records.specs.Values.{rollArray}
 use Rattle.held_state.specs.declared.Store.{Store}
 use Rattle.held_state.specs.Held.{State, on}
 use Rattle.store.specs.declared.Request.{Request}
@@ -22,6 +24,11 @@ callOf2 q input buffer = record { request = q; input = input; buffer = buffer }
 abbrev pub Typed2 : Request → List ℕ → Type 0
 Typed2 q input = Typed edition2 q input
 
+-- "A fresh desk has no sites, no plan, and 512 places for shares, all zero. Its 64 places for groups are zero too." Document 02, g: of rolls "a fresh desk and one turned by
+-- e) have none".
+abbrev pub fresh2 : Store
+fresh2 = bare 0 (rollArray none)
+
 -- the structs of edition 2 are what they are in figures
 abbrev pub entry2 : Entry
 entry2 =
@@ -33,7 +40,7 @@ entry2 =
       figures = λ s. s;
       sites = λ table. table;
       request = λ q. q;
-      fresh = bare 0;
+      fresh = fresh2;
     }
 
 -- what the entry gives back of a decision

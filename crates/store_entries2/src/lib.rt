@@ -2,6 +2,7 @@
 use density::Site;
 use held_state::Store;
 use records::edition2;
+use records::no_roll;
 use serve::serve;
 use serve::stored;
 use store::Answer;
@@ -11,9 +12,9 @@ use table::places_on;
 ghost use mathlib.Core.Path.{_≡_};
 ghost use lib.ListN.{take, drop};
 ghost use Rattle.records.specs.Format.{edition2};
-ghost use Rattle.store.specs.State.{bare, step};
+ghost use Rattle.store.specs.State.{step};
 ghost use Rattle.serve.specs.Serve.{Served};
-ghost use Rattle.store_entries2.specs.Edition2.{view2, callOf2, Typed2, turned2};
+ghost use Rattle.store_entries2.specs.Edition2.{view2, callOf2, Typed2, fresh2, turned2};
 
 // What a call of edition 2 gives back.
 pub struct Out2 {
@@ -28,16 +29,18 @@ pub struct OutOn2 {
     pub table: [Site; 600],
 }
 
-// "A fresh desk has no sites, no plan, and 512 places for shares, all zero."
+// "A fresh desk has no sites, no plan, and 512 places for shares, all zero." Nor has it a roll.
 pub fn fresh2() -> Store
-    ensures { λ r. ⌜ r ≡ bare 0 ⌝ }
+    ensures { λ r. ⌜ r ≡ fresh2 ⌝ }
 {
+    let roll = no_roll();
     Store {
         count: 0,
         held: false,
         grouped: 0,
         groups: [0; 64],
         shares: [0; 512],
+        roll,
     }
 }
 

@@ -56,7 +56,7 @@ module _ (s : Store1) (t : List Site1) (new : List Site) (store : Store) (last :
       → tracedOn (migrate new) a u .edition ≡ viewed (cond (ended a) (of2 store last) (of1 s t)) .edition
   over-edition a u e = by (ended a)
     where
-      by : (b : Bool) → cond b (record { edition = edition2; places = length new; proposal = u .proposal }) u .edition ≡ viewed (cond b (of2 store last) (of1 s t)) .edition
+      by : (b : Bool) → cond b (record { edition = edition2; places = length new; proposal = u .proposal; roll = none }) u .edition ≡ viewed (cond b (of2 store last) (of1 s t)) .edition
       by true = refl
       by false = e
 

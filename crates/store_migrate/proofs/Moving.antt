@@ -3,6 +3,7 @@
 use mathlib.Core.Path.{_≡_, refl, sym, ap, ap₂, _∙_, subst}
 use mathlib.Core.Bool.{true, false}
 use mathlib.Core.List.{List, _++_, map}
+use mathlib.Core.Option.{none}
 use Prim.Native.Nat.{ℕ, _≤_, zero-le}
 use native.Mathlib.Omega.{arith}
 use lib.ListN.{length, take, drop, replicate, length-map, length-replicate}
@@ -12,6 +13,8 @@ use Rattle.density.specs.declared.Site.{Site}
 use Rattle.density.specs.Network.{noSite}
 use Rattle.density.specs.Rows.{firstRow}
 use Rattle.records.specs.declared.Edition.{Edition}
+use Rattle.records.specs.declared.RollArray.{RollArray}
+use Rattle.records.specs.Values.{rollArray}
 use Rattle.records.specs.Format.{edition1}
 use Rattle.records.specs.Answer.{filled}
 use Rattle.records.proofs.Records.{filled-front}
@@ -38,27 +41,29 @@ use Rattle.edition1.specs.declared.Store1.{Store1}
 use Rattle.edition1.specs.Edition1.{storeOf1, view1}
 use Rattle.store_migrate.specs.Migrate.{MovedOver, Decided}
 
--- ---- what carries over
+-- ---- what carries over, without a roll
 
-pub carries-none : (s : Store) → s .held ≡ false → (e : Edition) (table : List Site)
-    → record { count = s .count; held = false; grouped = 0; groups = replicate 64 0; shares = replicate 512 0 } ≡ carried (on e s table)
-carries-none s h e table = rw h refl
+pub carries-none : (s : Store) {roll : RollArray} → roll ≡ rollArray none → s .held ≡ false → (e : Edition) (table : List Site)
+    → record { count = s .count; held = false; grouped = 0; groups = replicate 64 0; shares = replicate 512 0; roll = roll } ≡ carried (on e s table)
+carries-none s r h e table = rw (r, h) refl
 
 -- places filled from the front
 overlaid : (n k : ℕ) (xs : List ℕ) {ys : List ℕ} → ys ≡ overlay n xs (replicate k 0) → n ≤ length xs → ys ≡ filled k (take n xs) 0
 unfolding overlay
 overlaid n k xs e h = e ∙ filled-front n k {ys = take n xs} {zs = take n xs} refl (length-take-le n xs h)
 
-pub carries-plan : (s : Store) {gs ss : List ℕ} → s .held ≡ true → s .count ≤ 512 → s .grouped ≤ 64
+pub carries-plan : (s : Store) {roll : RollArray} {gs ss : List ℕ} → roll ≡ rollArray none → s .held ≡ true → s .count ≤ 512 → s .grouped ≤ 64
     → (gs ≡ overlay (s .grouped) (s .groups) (replicate 64 0)) × (length (s .groups) ≡ 64)
     → (ss ≡ overlay (s .count) (s .shares) (replicate 512 0)) × (length (s .shares) ≡ 512)
-    → (e : Edition) (table : List Site) → record { count = s .count; held = true; grouped = s .grouped; groups = gs; shares = ss } ≡ carried (on e s table)
-carries-plan s {gs} {ss} t some-sites small (g, many) (x, each) e table =
+    → (e : Edition) (table : List Site) → record { count = s .count; held = true; grouped = s .grouped; groups = gs; shares = ss; roll = roll } ≡ carried (on e s table)
+carries-plan s {roll} {gs} {ss} r t some-sites small (g, many) (x, each) e table =
     let p = planHeld (on e s table) in
     let n : s .grouped ≡ length (p .groups) = sym (length-take-le (s .grouped) (s .groups) (omega (arith, small, many))) in
     let a : gs ≡ filled 64 (p .groups) 0 = overlaid (s .grouped) 64 (s .groups) g (omega (arith, small, many)) in
     let b : ss ≡ filled 512 (p .shares) 0 = overlaid (s .count) 512 (s .shares) x (omega (arith, some-sites, each)) in
-    ap₂ (λ (k : ℕ) (q : List ℕ × List ℕ). record { count = s .count; held = true; grouped = k; groups = q .0; shares = q .1 }) n (ap₂ (λ (x y : List ℕ). (x, y)) a b)
+    ap (λ (o : RollArray). record { count = s .count; held = true; grouped = s .grouped; groups = gs; shares = ss; roll = o }) r
+    ∙ ap₂ (λ (k : ℕ) (q : List ℕ × List ℕ). record { count = s .count; held = true; grouped = k; groups = q .0; shares = q .1; roll = rollArray none }) n
+    (ap₂ (λ (x y : List ℕ). (x, y)) a b)
     ∙ sym (rw t refl)
 
 -- ---- what the step leaves

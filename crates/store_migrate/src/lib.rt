@@ -3,6 +3,7 @@ use density::Site;
 use edition1::Store1;
 use edition1::widen_store;
 use held_state::Store;
+use records::no_roll;
 use serve::row_zero;
 use store::Answer;
 use store::Decision;
@@ -57,12 +58,13 @@ fn first_shares(shares: [u64; 512], n: usize) -> [u64; 512]
     a
 }
 
-// What carries over of a store: how many sites it has, and its plan or the lack of one.
+// What carries over of a store: how many sites it has, and its plan or the lack of one. There is no roll.
 fn carry(store: Store) -> Store
     requires { ⌜ (store .count ≤ 512) × (store .held ≡ true → store .grouped ≤ 64) ⌝ }
     ensures { λ r. ⌜ ((e : Edition) (table : List Site) → r ≡ carried (on e store table)) ⌝ }
 {
     let count = store.count;
+    let roll = no_roll();
     if !store.held {
         return Store {
             count,
@@ -70,6 +72,7 @@ fn carry(store: Store) -> Store
             grouped: 0,
             groups: [0; 64],
             shares: [0; 512],
+            roll,
         };
     }
     let grouped = store.grouped;
@@ -83,6 +86,7 @@ fn carry(store: Store) -> Store
         grouped,
         groups,
         shares,
+        roll,
     }
 }
 

@@ -61,7 +61,7 @@ module _ {s t s₂ t₂ s₂' t₂' : List ℕ} {a : Told} (x : Migrated s t s�
 
   -- the store of edition 2 has its length
   pub over-sized : isOf edition2 s₂ ≡ true → isOf edition2 s₂' ≡ true
-  over-sized long = ap (λ (n : ℕ). eqb n (storeSize (edition2 .share))) (x .long) ∙ long
+  over-sized long = ap (λ (n : ℕ). eqb n (storeSize (edition2 .share) (edition2 .roll))) (x .long) ∙ long
 
   -- refused, the history goes on with the old ones
   stays-by : (o : Option ℕ) (n : ℕ) → migrateStep o (stateIn edition1 s t) (sitesIn (edition2 .litres) t₂) .reply .answer ≡ refused n

@@ -4,9 +4,11 @@ use layout::list_in;
 use layout::store_in;
 use layout_put::put_bare;
 use layout_put::put_plan;
+use layout_put::put_roll;
 use layout_put::put_sites;
 use lent::summary;
 use records::edition1;
+use records::no_roll;
 use store::Answer;
 use store_calls::migrate_row;
 use tables::Verdict;
@@ -25,8 +27,9 @@ pub fn migrate(store: &[u8], table: &[u8], store2: &mut [u8], table2: &mut [u8])
     let e = edition1();
     let mut groups = [0u64; 64];
     let mut shares = [0u64; 512];
-    let h = store_in(store, e.share, &mut groups, &mut shares);
-    let list = list_in(table, e.litres, h.count);
+    let h = store_in(store, e.share, e.roll, &mut groups, &mut shares);
+    let roll = h.roll;
+    let list = list_in(table, e.litres, h.count, roll);
     let known = summary(e, h, table);
     if is_corrupt(list, known, &groups, &shares) {
         return Answer::Refused(0);
@@ -37,6 +40,8 @@ pub fn migrate(store: &[u8], table: &[u8], store2: &mut [u8], table2: &mut [u8])
     }
     let sites = list.sites;
     put_sites(table2, 4, sites, h.count);
+    let none = no_roll();
+    put_roll(store2, 8, none);
     if h.held {
         put_plan(store2, 8, h.count, h.grouped, &groups, &shares);
     } else {

@@ -1,16 +1,19 @@
-// Check and Make beside the plain count over all sets: every small list, and random ones.
+// Check and Make beside the plain count over all sets: every small list, and random ones, without a roll and with one.
 use exhaustive::has_groups;
 use exhaustive::is_true;
 use libc::STDOUT_FILENO;
 use networks::random;
+use networks::rolled;
 use networks::small;
 use networks::variant;
 use networks::variants;
+use records::Edition;
 use records::ListArray;
 use records::PlanArray;
 use records::Read;
 use records::Wrote;
 use tables::Verdict;
+ghost use Prim.Native.Nat.{_≤_};
 
 // What came out: lists, plans of Make that the count finds false or grouped otherwise, plans judged, those that are true, and
 // those of which the check and the count say different things.
@@ -45,11 +48,22 @@ fn length(w: Wrote) -> usize {
     }
 }
 
+// The edition that a list is written in: one with a roll in edition 2.
+fn edition(list: ListArray) -> Edition
+    ensures { λ r. ⌜ (r .litres ≤ 4) × (r .share ≤ 8) ⌝ }
+{
+    let roll = list.roll;
+    if roll.there {
+        return records::edition2();
+    }
+    records::edition1()
+}
+
 fn write_list(list: ListArray, out: &mut [u8]) -> usize {
     if 512 < list.count {
         return 65536;
     }
-    length(writers::list(records::edition1(), list, out))
+    length(writers::list(edition(list), list, out))
 }
 
 fn write_plan(list: ListArray, plan: PlanArray, out: &mut [u8]) -> usize {
@@ -59,7 +73,7 @@ fn write_plan(list: ListArray, plan: PlanArray, out: &mut [u8]) -> usize {
     if 64 < plan.count {
         return 65536;
     }
-    length(writers::plan(records::edition1(), plan, list.count, out))
+    length(writers::plan(edition(list), plan, list.count, out))
 }
 
 // What the check says of a plan: 1 where it passes it, 0 where not; 2 where the plan cannot be written.
@@ -103,7 +117,7 @@ fn made(list: ListArray, bytes: &[u8]) -> PlanArray {
     if 1024 < n {
         return none;
     }
-    let r = readers::plan::read(records::edition1(), list.count, &out[..n]);
+    let r = readers::plan::read(edition(list), list.count, &out[..n]);
     r.plan
 }
 
@@ -147,9 +161,9 @@ fn swept_bytes(t: Tally, list: ListArray, bytes: &[u8], from: usize) -> Tally {
 }
 
 fn swept(t: Tally, list: ListArray, from: usize) -> Tally {
-    let mut bytes = [0u8; 128];
+    let mut bytes = [0u8; 256];
     let n = write_list(list, &mut bytes);
-    if 128 < n {
+    if 256 < n {
         return t;
     }
     swept_bytes(t, list, &bytes[..n], from)
@@ -179,6 +193,26 @@ fn swept_random(t: Tally) -> Tally {
     sum
 }
 
+// The same lists with rolls.
+fn swept_rolled(t: Tally) -> Tally {
+    let mut sum = t;
+    for k in 0..600usize {
+        let next = swept(sum, rolled(random(11, k as u64), 13, k as u64), k);
+        sum = next;
+    }
+    sum
+}
+
+// Small lists with rolls, one of each nine.
+fn swept_small_rolled(t: Tally) -> Tally {
+    let mut sum = t;
+    for n in 0..5152usize {
+        let next = swept(sum, rolled(small(n * 9), 17, n as u64), n);
+        sum = next;
+    }
+    sum
+}
+
 fn line(name: &[u8], n: u64) {
     io::write_all(STDOUT_FILENO, name);
     io::print_decimal(STDOUT_FILENO, n);
@@ -197,7 +231,7 @@ fn print_plans(t: Tally) {
 }
 
 fn main() {
-    let t = swept_random(swept_small());
+    let t = swept_small_rolled(swept_rolled(swept_random(swept_small())));
     print_lists(t);
     print_plans(t);
 }

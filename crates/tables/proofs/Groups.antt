@@ -1,25 +1,29 @@
 -- Rows 12 and 13 and the place of a depot, group by group. Assumes nothing.
 use mathlib.Core.Path.{_≡_, refl, sym, ap, _∙_, subst}
-use mathlib.Core.Bool.{Bool, true, false, not, _||_, _&&_, Bool·beq}
+use mathlib.Core.Bool.{Bool, true, false, cond, not, _||_, _&&_, Bool·beq}
 use mathlib.Core.List.{List}
+use mathlib.Core.Option.{Option, none, some}
 use mathlib.Core.Logic.{⊎-elim}
-use Prim.Native.Nat.{ℕ, _+_, _<_, _^_}
+use Prim.Native.Nat.{ℕ, _+_, _≤_, _<_, _^_}
 use native.Mathlib.Numerals.{add-one}
 use native.Mathlib.Omega.{arith}
-use lib.Dec.{T, eqb, ltb, eqb→eq, ltb→lt, lt→ltb, T-not, not-T}
+use borrow.Author.Tests.{not-true}
+use lib.Dec.{T, eqb, ltb, eqb→eq, ltb→lt, lt→ltb, nltb→le, T-not, not-T}
 use lib.ListN.{length, getD, set}
 use lib.Seq.{take-length}
-use Rattle.sets.specs.Sum.{any}
-use Rattle.sets.specs.Set.{Depots, _∪_, _∩_, has, setOf, isEmpty, cardinality}
+use Rattle.sets.specs.Sum.{when, any}
+use Rattle.sets.specs.Set.{Depots, _∪_, _∩_, has, setOf, isEmpty, weigh}
 use Rattle.sets.proofs.Test.{T?, T-ext, eq→eqb, is-false, fails}
-use Rattle.sets.proofs.Sum.{any-at, any-from, any-cong}
+use Rattle.sets.proofs.Sum.{sum-cong, any-at, any-from, any-cong}
 use Rattle.sets.proofs.Member.{member-lt, has-none, has-setOf, setOf-is, setOf-cong}
 use Rattle.sets.proofs.Set.{any-here}
-use Rattle.density.specs.Network.{Listing, Network, Valid, network, size}
+use Rattle.density.specs.Network.{Listing, Network, Valid, crewsOf, network, crewsAbove, size}
 use Rattle.density.specs.Plan.{union, group, before, place, groupSize}
 use Rattle.density.specs.Rows.{groupsMeet, groupsUnlisted}
 use Rattle.density.proofs.Places.{→group, before-suc}
 use Rattle.density.proofs.Plans.{union→}
+use Rattle.records.specs.declared.RollArray.{RollArray}
+use Rattle.records.specs.Values.{rollIn}
 use Rattle.tables.specs.Tables.{Holds}
 use Rattle.tables.proofs.Arrays.{holds-more}
 
@@ -111,13 +115,31 @@ listed-is N ok gs low e d =
     ∙ sym (is-false (N .listed d) (λ t. n (lt→ltb d 64 (ok .small d t)))))
     (T? (ltb d 64))
 
--- ---- q of a group: in the network of a list each depot has one crew
+-- ---- the crews of the depots, and q of a group
 
-pub size-is : (x : ℕ) (l : Listing) → cardinality (has x) 64 ≡ size (network l) (has x)
-unfolding network size cardinality
-size-is x l = refl
+-- the crews of a list's depots
+pub crews-net : (l : Listing) (roll : Option (List ℕ)) (crews : List ℕ) → l .roll ≡ roll → Holds crews (crewsOf roll) 64 → Holds crews (network l .crews) 64
+unfolding network
+crews-net l roll crews e h d m = h d m ∙ ap (λ (r : Option (List ℕ)). crewsOf r d) (sym e)
 
-pub sizes-more : (gs a : List ℕ) (k x : ℕ) → ((l : Listing) → Holds a (groupSize (network l) gs) k) → k < length a → ((l : Listing) → x ≡ size (network l) (group gs k))
-    → (l : Listing) → Holds (set a k x) (groupSize (network l) gs) (k + 1)
+-- without a roll each has one; with one that row 22 does not refuse each has at most 9
+module _ (roll : RollArray) (crews : List ℕ) (h : Holds crews (crewsOf (rollIn roll)) 64) where
+  pub crews-one : not (roll .there) ≡ true → (d : ℕ) → d < 64 → getD crews d 0 ≡ 1
+  crews-one e d l = h d l ∙ ap (λ (b : Bool). crewsOf (cond b (some (roll .crews)) none) d) (not-true (roll .there) e)
+
+  pub crews-few : crewsAbove (rollIn roll) ≡ false → (d : ℕ) → d < 64 → getD crews d 0 ≤ 9
+  unfolding crewsAbove
+  crews-few e d l =
+      rw (h d l)
+      (nltb→le 9 (crewsOf (rollIn roll) d) (not-T (ltb 9 (crewsOf (rollIn roll) d)) (λ t. fails _ e (any-from (λ d. ltb 9 (crewsOf (rollIn roll) d)) 64 d l t))))
+
+-- a set's size is its crews added up
+pub size-is : (N : Network) (crews : List ℕ) → Holds crews (N .crews) 64 → (X : Depots) → weigh (λ d. getD crews d 0) X 64 ≡ size N X
+unfolding size weigh
+size-is N crews h X = sum-cong _ _ 64 (λ d l. ap (when (X d)) (h d l))
+
+-- q of one group more
+pub sizes-more : (crews gs a : List ℕ) (k x : ℕ) → ((N : Network) → Holds crews (N .crews) 64 → Holds a (groupSize N gs) k) → k < length a
+    → x ≡ weigh (λ d. getD crews d 0) (group gs k) 64 → (N : Network) → Holds crews (N .crews) 64 → Holds (set a k x) (groupSize N gs) (k + 1)
 unfolding groupSize
-sizes-more gs a k x h low e l = holds-more a (groupSize (network l) gs) k x (h l) low (e l)
+sizes-more crews gs a k x h low e N c = holds-more a (groupSize N gs) k x (h N c) low (e ∙ size-is N crews c (group gs k))

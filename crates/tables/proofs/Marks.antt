@@ -14,54 +14,27 @@ use Rattle.sets.proofs.Test.{T?, and-l, and-r, is-false, passes, fails, eq→eq
 use Rattle.sets.proofs.Sum.{any-at}
 use Rattle.sets.proofs.Member.{member-lt}
 use Rattle.sets.proofs.Set.{empty→, has-without, has-single}
-use Rattle.sets.proofs.Weigh.{weigh-lt, lowest-has}
+use Rattle.sets.proofs.Rest.{rest, lowest-lt, in-left, rest-is}
 use Rattle.density.specs.Plan.{place}
 
 -- ---- a set's depots, from the lowest on
 
--- what is left once d is marked
-abbrev pub rest : ℕ → ℕ → ℕ
-rest left d = setOf (has left ∖ has (setOf (only d) 64)) 64
-
-module _ (left : ℕ) (low : left < 2 ^ 64) (some : not (isEmpty (has left) 64) ≡ true) where
-  here : T (has left (lowest (has left) 64))
-  here =
-      ⊎-elim (λ t. let r = any-at (has left) 64 t in lowest-has (has left) 64 (r .0) (r .1) (r .2))
-      (λ n. absurd (T-not (isEmpty (has left) 64) (passes _ some) (not-T (any (has left) 64) n)))
-      (T? (any (has left) 64))
-
-  pub lowest-lt : lowest (has left) 64 < 64
-  lowest-lt = member-lt 64 (lowest (has left) 64) low here
-
-  module _ (d : ℕ) (is : d ≡ lowest (has left) 64) where
-    in-left : T (has left d)
-    in-left = rw is here
-
-    rest-is : (e : ℕ) → has (rest left d) e ≡ (has left e && not (eqb e d))
-    rest-is e = has-without 64 (setOf (only d) 64) low e ∙ ap (λ (b : Bool). has left e && not b) (has-single 64 d (rw is lowest-lt) e)
-
-    pub rest-less : cardinality (has (rest left d)) 64 < cardinality (has left) 64
-    unfolding cardinality
-    rest-less =
-        weigh-lt (λ e. 1) (has (rest left d)) (has left) 64 (λ e t. and-l (has left e) (not (eqb e d)) (rw (rest-is e) at t)) d (rw is lowest-lt) in-left
-        (λ t. T-not (eqb d d) (and-r (has left d) (not (eqb d d)) (rw (rest-is d) at t)) (eqb-refl d))
-        (suc-le-suc zero-le)
-
-    -- marking d and then what is left marks all that was left
-    pub mark-more : (a : List ℕ) (k e : ℕ) → length a ≡ 64 → cond (has (rest left d) e) k (getD (set a d k) e 0) ≡ cond (has left e) k (getD a e 0)
-    mark-more a k e wide =
-        ⊎-elim
-        (λ t.
-        let z = eqb→eq e d t in
-        rw z
-        (ap (λ (b : Bool). cond b k (getD (set a d k) d 0)) (rest-is d)
-        ∙ cond-off (has left d && not (eqb d d)) k _ (λ u. T-not (eqb d d) (and-r (has left d) (not (eqb d d)) u) (eqb-refl d))
-        ∙ getD-set-same a d k 0 (omega (arith, wide, is, lowest-lt))
-        ∙ sym (cond-on (has left d) k (getD a d 0) in-left)))
-        (λ n.
-        ap (λ (b : Bool). cond b k (getD (set a d k) e 0)) (rest-is e ∙ ap (λ (b : Bool). has left e && not b) (is-false (eqb e d) n) ∙ and-true (has left e))
-        ∙ ap (cond (has left e) k) (getD-set-other a d e k 0 (λ z. n (eq→eqb e d z))))
-        (T? (eqb e d))
+module _ (left : ℕ) (low : left < 2 ^ 64) (some : not (isEmpty (has left) 64) ≡ true) (d : ℕ) (is : d ≡ lowest (has left) 64) where
+  -- marking d and then what is left marks all that was left
+  pub mark-more : (a : List ℕ) (k e : ℕ) → length a ≡ 64 → cond (has (rest left d) e) k (getD (set a d k) e 0) ≡ cond (has left e) k (getD a e 0)
+  mark-more a k e wide =
+      ⊎-elim
+      (λ t.
+      let z = eqb→eq e d t in
+      rw z
+      (ap (λ (b : Bool). cond b k (getD (set a d k) d 0)) (rest-is left low some d is d)
+      ∙ cond-off (has left d && not (eqb d d)) k _ (λ u. T-not (eqb d d) (and-r (has left d) (not (eqb d d)) u) (eqb-refl d))
+      ∙ getD-set-same a d k 0 (omega (arith, wide, is, lowest-lt left low some))
+      ∙ sym (cond-on (has left d) k (getD a d 0) (in-left left low some d is))))
+      (λ n.
+      ap (λ (b : Bool). cond b k (getD (set a d k) e 0)) (rest-is left low some d is e ∙ ap (λ (b : Bool). has left e && not b) (is-false (eqb e d) n) ∙ and-true (has left e))
+      ∙ ap (cond (has left e) k) (getD-set-other a d e k 0 (λ z. n (eq→eqb e d z))))
+      (T? (eqb e d))
 
 pub mark-end : (left : ℕ) → not (isEmpty (has left) 64) ≡ false → (d k x : ℕ) → d < 64 → cond (has left d) k x ≡ x
 mark-end left none d k x l =

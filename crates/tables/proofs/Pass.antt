@@ -6,17 +6,18 @@ use Prim.Native.Nat.{ℕ, _+_, _*_, _≤_, _<_, _^_, max}
 use native.Mathlib.Nat.{le-of-suc-le}
 use native.Mathlib.Omega.{arith}
 use borrow.Author.Tests.{ltb-true, ltb-false}
-use lib.Dec.{ltb}
+use lib.Dec.{T, ltb}
 use lib.ListN.{length, getD, set, replicate, length-set}
 use Rattle.sets.specs.Sum.{any}
 use Rattle.sets.proofs.Test.{fails}
 use Rattle.sets.proofs.Set.{any-start, any-more, any-here}
 use Rattle.density.specs.declared.Site.{Site}
-use Rattle.density.specs.Network.{Network, noSite}
+use Rattle.density.specs.Network.{Network, noSite, inRange}
 use Rattle.density.specs.Plan.{whole}
 use Rattle.density.specs.Rows.{shareBroken, sharesBroken}
 use Rattle.records.specs.declared.ListArray.{ListArray}
 use Rattle.records.specs.declared.PlanArray.{PlanArray}
+use Rattle.records.specs.Values.{listing}
 use Rattle.tables.specs.declared.Tally.{Tally}
 use Rattle.tables.specs.Tables.{net, groupsIn, sharesIn, Holds, Ready, Tables, Tallied, Entry}
 use Rattle.tables.proofs.Arrays.{holds-more}
@@ -35,9 +36,9 @@ pass-start list plan places wholes wide =
     record { litres-is = summed-zero _ _; wide = wide; wholes-is = λ r k l. absurd (omega arith); unbroken = λ r. any-start _ }
 
 -- w × q of a group is small, for any plan
-pub table-fits : (list : ListArray) (plan : PlanArray) (places sizes : List ℕ) → Tables list plan places sizes → (k w : ℕ) → k < plan .count → w < 2 ^ 32
+pub table-fits : (list : ListArray) (plan : PlanArray) → T (inRange (listing list)) → (places sizes : List ℕ) → Tables list plan places sizes → (k w : ℕ) → k < plan .count → w < 2 ^ 32
     → w * getD sizes k 0 < 2 ^ 42
-table-fits list plan places sizes t k w l m = product-lt w _ m (omega (arith, t .size k l, size-few list (groupsIn list plan) k))
+table-fits list plan h places sizes t k w l m = product-lt w _ m (omega (arith, t .size k l, size-few list h (groupsIn list plan) k))
 
 module _ (list : ListArray) (plan : PlanArray) (places sizes : List ℕ) (t : Tables list plan places sizes) (i : ℕ) (l : i < list .count) where
   abbrev site : Site

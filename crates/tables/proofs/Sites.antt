@@ -14,7 +14,8 @@ use Rattle.sets.proofs.Test.{and-l, and-r, eqb-swap}
 use Rattle.sets.proofs.Sum.{all-at, any-cong}
 use Rattle.sets.proofs.Member.{has-none, has-setOf, setOf-is, setOf-cong}
 use Rattle.density.specs.declared.Site.{Site}
-use Rattle.density.specs.Network.{noSite, siteAt, names, network, depotsInRange}
+use Rattle.density.specs.Network.{noSite, siteAt, names, network, depotsInRange, inRange}
+use Rattle.density.proofs.Lists.{range-depots}
 use Rattle.records.specs.declared.ListArray.{ListArray}
 use Rattle.records.specs.Values.{listing}
 use Rattle.tables.specs.Tables.{net}
@@ -29,11 +30,11 @@ module _ (list : ListArray) (wide : length (list .sites) ≡ 512) (few : list .c
   site-is i l = getD-take (list .count) (list .sites) i noSite l
 
   -- "A depot is a number from 0 to 63."
-  pub site-small : T (depotsInRange (listing list)) → (i : ℕ) → i < list .count → (getD (list .sites) i noSite .first < 64) × (getD (list .sites) i noSite .second < 64)
+  pub site-small : T (inRange (listing list)) → (i : ℕ) → i < list .count → (getD (list .sites) i noSite .first < 64) × (getD (list .sites) i noSite .second < 64)
   unfolding depotsInRange
   site-small h i l =
       let s = siteAt (listing list) i in
-      let b = all-at _ _ h i (subst (λ n. i < n) (sym (length-take-le (list .count) (list .sites) (omega arith))) l) in
+      let b = all-at _ _ (range-depots (listing list) h) i (subst (λ n. i < n) (sym (length-take-le (list .count) (list .sites) (omega arith))) l) in
       let small : (s .first < 64) × (s .second < 64) =
       (ltb→lt (s .first) 64 (and-l (ltb (s .first) 64) (ltb (s .second) 64) b), ltb→lt (s .second) 64 (and-r (ltb (s .first) 64) (ltb (s .second) 64) b)) in
       subst (λ (t : Site). (t .first < 64) × (t .second < 64)) (getD-take (list .count) (list .sites) i noSite l) small

@@ -9,12 +9,12 @@ use lib.ListN.{length, getD, take, replicate}
 use lib.Seq.{getD-take, length-take-le}
 use Rattle.sets.specs.Sum.{sum}
 use Rattle.sets.specs.Set.{setOf}
-use Rattle.density.specs.Network.{Listing, Network, network}
+use Rattle.density.specs.Network.{Listing, Network, crewsOf, network}
 use Rattle.density.specs.Plan.{place, groupSize}
 use Rattle.density.specs.Rows.{firstRow, planRows, groupsMeet, groupsUnlisted, sharesBroken, loadsUneven, groupsRise}
 use Rattle.records.specs.declared.ListArray.{ListArray}
 use Rattle.records.specs.declared.PlanArray.{PlanArray}
-use Rattle.records.specs.Values.{listing}
+use Rattle.records.specs.Values.{rollIn, listing}
 use Rattle.tables.specs.declared.Verdict.{Verdict}
 use Rattle.tables.specs.declared.Verdict.the-variants.{Passes, Refused}
 use Rattle.tables.specs.declared.Tally.{Tally}
@@ -23,7 +23,7 @@ use Rattle.tables.specs.Verdict.{verdict}
 use Rattle.tables.specs.Tables.{net, groupsIn, sharesIn, Holds, Counted, Ready, Tables, Litres, Tallied, partOf, Parts, Levels, formRows, Kept, Formed, Small}
 use Rattle.density.proofs.Lists.{valid}
 use Rattle.tables.proofs.Arrays.{from-zero}
-use Rattle.tables.proofs.Groups.{unlisted-is, listed-is}
+use Rattle.tables.proofs.Groups.{unlisted-is, listed-is, crews-net}
 use Rattle.tables.proofs.Shares.{sizes-few}
 use Rattle.tables.proofs.Totals.{parts, parts-load}
 
@@ -104,13 +104,13 @@ ready list plan n wide deep low e =
 
 pub tables-of : (list : ListArray) (plan : PlanArray) → Counted list plan → length (plan .groups) ≡ 64 → (places sizes : List ℕ) → length places ≡ 64 → length sizes ≡ 64
     → Holds places (place (groupsIn list plan)) 64
-    → ((l : Listing) → Holds sizes (groupSize (network l) (groupsIn list plan)) (length (groupsIn list plan))) → Tables list plan places sizes
+    → ((l : Listing) → l .roll ≡ rollIn (list .roll) → Holds sizes (groupSize (network l) (groupsIn list plan)) (length (groupsIn list plan))) → Tables list plan places sizes
 tables-of list plan n deep places sizes p q h k =
     record {
       length-places = p;
       length-sizes = q;
       place = h;
-      size = λ i l. k (listing list) i (omega (arith, long));
+      size = λ i l. k (listing list) refl i (omega (arith, long));
     }
   where
     long : length (groupsIn list plan) ≡ plan .count
@@ -118,7 +118,7 @@ tables-of list plan n deep places sizes p q h k =
 
 module _ (list : ListArray) (plan : PlanArray) (r : Ready list plan) where
   pub tables : (places sizes : List ℕ) → length places ≡ 64 → length sizes ≡ 64 → Holds places (place (groupsIn list plan)) 64
-      → ((l : Listing) → Holds sizes (groupSize (network l) (groupsIn list plan)) (length (groupsIn list plan))) → Tables list plan places sizes
+      → ((l : Listing) → l .roll ≡ rollIn (list .roll) → Holds sizes (groupSize (network l) (groupsIn list plan)) (length (groupsIn list plan))) → Tables list plan places sizes
   tables = tables-of list plan (r .counted) (r .places .1)
 
   pub small : (places sizes litres : List ℕ) → Tables list plan places sizes → Litres list places litres → length litres ≡ 64 → Small litres sizes (plan .count)
@@ -162,12 +162,13 @@ module _ {list : ListArray} {plan : PlanArray} {r : Form} {ws : List ℕ} (k : K
   pub kept-parts : Parts list (plan .shares) ws
   kept-parts = parts list plan (k .ready) many ws (k .wholes) (k .shares)
 
-  pub kept-levels : (sums : List ℕ) → Holds sums (λ d. getD (replicate 64 0) d 0 + sum (partOf list (plan .shares) ws d) (list .count)) 64 → Levels list plan (r .listed) (r .places) (r .litres) sums
-  kept-levels sums h =
+  pub kept-levels : (crews : List ℕ) → Holds crews (crewsOf (rollIn (list .roll))) 64 → (sums : List ℕ) → Holds sums (λ d. getD (replicate 64 0) d 0 + sum (partOf list (plan .shares) ws d) (list .count)) 64 → Levels list plan (r .listed) (r .places) (r .litres) crews sums
+  kept-levels crews c sums h =
       record {
         ready = k .ready;
         listed = k .listed;
         place = k .tables .place;
         litres = k .litres .1;
+        crews = crews-net (listing list) (rollIn (list .roll)) crews refl c;
         loads = parts-load list plan (k .ready) many ws (k .wholes) sums (from-zero sums _ h);
       }

@@ -8,7 +8,7 @@ use lib.ListN.{length, getD, take}
 use Rattle.sets.specs.Sum.{when}
 use Rattle.sets.specs.Set.{setOf}
 use Rattle.density.specs.declared.Site.{Site}
-use Rattle.density.specs.Network.{Network, noSite, network, depotsInRange}
+use Rattle.density.specs.Network.{Network, noSite, network, inRange}
 use Rattle.density.specs.Plan.{union, place, groupSize, groupLitres, whole, firstShare}
 use Rattle.density.specs.Rows.{Row, row, firstRow, groupsMeet, sharesBroken, scaledLoad, loadsUneven, planRows}
 use Rattle.records.specs.declared.ListArray.{ListArray}
@@ -33,11 +33,11 @@ sharesIn list plan = planIn plan (list .count) .shares
 abbrev pub Holds : List ℕ → (ℕ → ℕ) → ℕ → Type 0
 Holds array f n = (k : ℕ) → k < n → getD array k 0 ≡ f k
 
--- a list and a plan whose counts fit the arrays, and whose depots are numbers from 0 to 63
+-- a list and a plan whose counts fit the arrays; the list is one that rows 5, 22 and 23 do not refuse
 pub record Counted (list : ListArray) (plan : PlanArray) : Type 0 where
   pub sites : list .count ≤ 512
   pub groups : plan .count ≤ 64
-  pub range : T (depotsInRange (listing list))
+  pub range : T (inRange (listing list))
 
 -- what rows 14 to 16 are tried on: a list and a plan that rows 12 and 13 do not refuse
 pub record Ready (list : ListArray) (plan : PlanArray) : Type 0 where
@@ -84,26 +84,26 @@ abbrev pub partOf : ListArray → List ℕ → List ℕ → ℕ → ℕ → ℕ
 partOf list shares wholes d i =
     when (eqb (getD (list .sites) i noSite .first) d) (getD shares i 0) + when (eqb (getD (list .sites) i noSite .second) d) (getD wholes i 0 - getD shares i 0)
 
--- shares that are at most w × q. q is at most 576, which is 9 × 64: sizes are over crews (`Network` in `density/specs`), up to 9 at a depot, as a later
--- request needs; document 01 has one crew each and so q up to 64.
+-- shares that are at most w × q. q is at most 576, which is 9 × 64: up to 9 crews at a depot
 pub record Parts (list : ListArray) (shares wholes : List ℕ) : Type 0 where
   pub sites : list .count ≤ 512
   pub lengths : (length shares ≡ 512) × (length wholes ≡ 512)
   pub depots : (i : ℕ) → i < list .count → (getD (list .sites) i noSite .first < 64) × (getD (list .sites) i noSite .second < 64)
   pub fit : (i : ℕ) → i < list .count → (getD shares i 0 ≤ getD wholes i 0) × (getD wholes i 0 ≤ getD (list .sites) i noSite .litres * 576)
 
--- what row 15 is tried on: the listed depots, their places, W of each group and each depot's scaled load
-pub record Levels (list : ListArray) (plan : PlanArray) (all : ℕ) (places weights sums : List ℕ) : Type 0 where
+-- what row 15 is tried on: the listed depots, their places, W of each group, each depot's crews and its scaled load
+pub record Levels (list : ListArray) (plan : PlanArray) (all : ℕ) (places weights counts sums : List ℕ) : Type 0 where
   pub ready : Ready list plan
   pub listed : all ≡ setOf (net list .listed) 64
   pub place : Holds places (place (groupsIn list plan)) 64
   pub litres : Litres list places weights
+  pub crews : Holds counts (net list .crews) 64
   pub loads : Holds sums (scaledLoad (net list) (groupsIn list plan) (sharesIn list plan)) 64
 
 -- b says whether row 15 applies
-abbrev pub Uneven : ℕ → List ℕ → List ℕ → List ℕ → Bool → Type 0
-Uneven all places litres loads b =
-    (list : ListArray) (plan : PlanArray) → Levels list plan all places litres loads → b ≡ loadsUneven (net list) (groupsIn list plan) (sharesIn list plan)
+abbrev pub Uneven : ℕ → List ℕ → List ℕ → List ℕ → List ℕ → Bool → Type 0
+Uneven all places litres crews loads b =
+    (list : ListArray) (plan : PlanArray) → Levels list plan all places litres crews loads → b ≡ loadsUneven (net list) (groupsIn list plan) (sharesIn list plan)
 
 -- rows 12 to 14, of groups, the listed depots, and whether a share breaks a rule
 abbrev pub formRows : List ℕ → ℕ → Bool → List Row

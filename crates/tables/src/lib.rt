@@ -1,15 +1,17 @@
-// What rows 12 to 16 are tried on: the listed depots, the place of each depot, and q and W of each group.
+// What rows 12 to 16 are tried on: the listed depots, the crews and the place of each depot, and q and W of each group.
 use density::Site;
 use records::ListArray;
+use records::RollArray;
+use records::roll;
 ghost use mathlib.Core.Path.{_≡_};
-ghost use mathlib.Core.Bool.{cond};
+ghost use mathlib.Core.Bool.{false, cond};
 ghost use Prim.Native.Nat.{_<_, _≤_, _^_, max};
 ghost use lib.Dec.{T};
 ghost use lib.ListN.{length, getD};
 ghost use Rattle.sets.specs.Set.{_∪_, has, setOf};
-ghost use Rattle.density.specs.Network.{Listing, names, network, depotsInRange, size};
+ghost use Rattle.density.specs.Network.{Listing, names, crewsOf, network, crewsAbove, inRange};
 ghost use Rattle.density.specs.Plan.{place, groupSize};
-ghost use Rattle.records.specs.Values.{listing};
+ghost use Rattle.records.specs.Values.{rollIn, listing};
 ghost use Rattle.tables.specs.Tables.{net, Holds, Placed, Litres};
 
 // What the check answers: a refusal is the row's number.
@@ -44,7 +46,7 @@ pub fn name(set: u64, s: Site) -> u64
 
 // The listed depots.
 pub fn listed(list: ListArray) -> u64
-    requires { ⌜ (list .count ≤ 512) × T (depotsInRange (listing list)) ⌝ }
+    requires { ⌜ (list .count ≤ 512) × T (inRange (listing list)) ⌝ }
     ensures { λ r. ⌜ r ≡ setOf (net list .listed) 64 ⌝ }
 {
     let mut set: u64 = 0;
@@ -85,22 +87,33 @@ pub fn places(groups: &[u64]) -> [u8; 64]
     r
 }
 
-// q of a set: "A group's size is the number of ones in its set."
-fn size(set: u64) -> u64
-    ensures { λ r. ⌜ ((l : Listing) → r ≡ size (network l) (has set)) ⌝ }
+// The crews of each depot: those of the roll or, without one, one each.
+pub fn crews(roll: RollArray) -> [u64; 64]
+    ensures { λ r. ⌜ Holds r (crewsOf (rollIn roll)) 64 ⌝ }
 {
-    sets::size(set)
+    let mut r = [1u64; 64];
+    if !roll.there {
+        return r;
+    }
+    let mut d: usize = 0;
+    while d < 64 {
+        r[d] = roll::crews_at(roll, d as u8) as u64;
+        d += 1;
+    }
+    r
 }
 
-// q of each group.
-pub fn sizes(groups: &[u64]) -> [u64; 64]
-    requires { ⌜ length (now groups) ≤ 64 ⌝ }
-    ensures { λ r. ⌜ ((l : Listing) → Holds r (groupSize (network l) (now (groups .entry))) (length (now (groups .entry)))) ⌝ }
+// q of each group: its crews added up. Without a roll "a group's size is the number of ones in its set."
+pub fn sizes(roll: RollArray, groups: &[u64]) -> [u64; 64]
+    requires { ⌜ (crewsAbove (rollIn roll) ≡ false) × (length (now groups) ≤ 64) ⌝ }
+    ensures { λ r. ⌜ ((l : Listing) → l .roll ≡ rollIn roll → Holds r (groupSize (network l) (now (groups .entry))) (length (now (groups .entry)))) ⌝ }
 {
+    let weights = crews(roll);
+    let ones = !roll.there;
     let mut r = [0u64; 64];
     let mut k: usize = 0;
     while k < groups.len() {
-        r[k] = size(groups[k]);
+        r[k] = sets::weight(&weights, ones, groups[k]);
         k += 1;
     }
     r

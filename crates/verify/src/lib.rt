@@ -76,7 +76,8 @@ pub fn try_form(
 {
     let groups = &sets[..count];
     let at = tables::places(groups);
-    let q = tables::sizes(groups);
+    let roll = list.roll;
+    let q = tables::sizes(roll, groups);
     let t = add_up(list, count, sets, shares, &at, &q, wholes);
     let verdict = rows::form_of(groups, t.listed, t.broken);
     let litres = t.litres;
@@ -106,7 +107,9 @@ pub fn plan_row(list: ListArray, plan: PlanArray) -> Verdict
     let q = f.sizes;
     let w = f.litres;
     let loads = loads::loads([0u64; 64], list, &shares, &wholes);
-    if rows::loads_uneven(f.listed, &at, &w, &loads) {
+    let roll = list.roll;
+    let crews = tables::crews(roll);
+    if rows::loads_uneven(f.listed, &at, &w, &crews, &loads) {
         return Verdict::Refused(15);
     }
     if rows::groups_rise(plan.count, &w, &q) {

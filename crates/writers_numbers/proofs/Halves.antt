@@ -19,7 +19,7 @@ le-join zero n x = rw (zero-add, div-one)
 le-join (suc m) n x = rw (suc-add, pow-succ', ← div-div-eq-div-mul) (ap (λ (l : List ℕ). x % 256 ∷ l) (le-join m n (x / 256)))
 
 -- one byte
-set-place : (at b : ℕ) (d : List ℕ) → at < length d → set d at b ≡ place at (b ∷ []) d
+pub set-place : (at b : ℕ) (d : List ℕ) → at < length d → set d at b ≡ place at (b ∷ []) d
 set-place at b d h = rw add-one (set-split d at b h)
 
 -- two bytes, one by one

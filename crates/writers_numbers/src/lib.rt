@@ -72,6 +72,18 @@ pub fn record_at(out: &mut [u8], at: usize, mark: u64, w: usize, x: u64)
     number_at(out, at + 2, w, x);
 }
 
+// Puts the 64 bytes of a roll, one for each depot, at a place of `out`.
+pub fn crews(out: &mut [u8], at: usize, bytes: [u8; 64])
+    requires { ⌜ at + 64 ≤ length (now out) ⌝ }
+    ensures { λ _. ⌜ now (out .exit) ≡ place at bytes (now (out .entry)) ⌝ }
+{
+    let mut d: usize = 0;
+    while d < 64 {
+        out[at + d] = bytes[d];
+        d += 1;
+    }
+}
+
 // Writes records of a mark and a number of `w` bytes, one for each number.
 pub fn records(out: &mut [u8], mark: u64, w: usize, xs: &[u64])
     requires { ⌜ (2 + w) * length (now xs) ≤ length (now out) ⌝ }

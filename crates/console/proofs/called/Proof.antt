@@ -8,7 +8,7 @@ use Rattle.console.proofs.Editions.{fitting, store-within, front-long, 
 use Rattle.console.proofs.called.Statement.{statement}
 use Rattle.console.proofs.called.Tie as tie
 
-store-long : (s : tie.Start) → length (s .args .desk .store) ≡ 4632
+store-long : (s : tie.Start) → length (s .args .desk .store) ≡ 4704
 store-long s = search needs
 
 table-long : (s : tie.Start) → length (s .args .desk .table) ≡ 3600

@@ -10,10 +10,10 @@ use Rattle.console.proofs.fresh.Tie as tie
 
 -- the bytes before the store is fresh
 abbrev zeros : List ℕ
-zeros = replicate 4632 0
+zeros = replicate 4704 0
 
-zeros-long : length zeros ≡ 4632
-zeros-long = length-replicate {A = ℕ} 4632 0
+zeros-long : length zeros ≡ 4704
+zeros-long = length-replicate {A = ℕ} 4704 0
 
 store-bytes-requires : tie.Need-store-bytes-requires
 store-bytes-requires c κs = search needs

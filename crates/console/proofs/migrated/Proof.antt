@@ -19,7 +19,7 @@ use Rattle.console.proofs.Editions.{front-long, front-is}
 use Rattle.console.proofs.migrated.Statement.{statement}
 use Rattle.console.proofs.migrated.Tie as tie
 
-store-long : (s : tie.Start) → length (s .args .desk .store) ≡ 4632
+store-long : (s : tie.Start) → length (s .args .desk .store) ≡ 4704
 store-long s = search needs
 
 table-long : (s : tie.Start) → length (s .args .desk .table) ≡ 3600

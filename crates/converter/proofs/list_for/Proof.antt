@@ -7,8 +7,8 @@ use Rattle.converter.proofs.list_for.Tie as tie
 read-requires : tie.Need-read-requires
 read-requires c κs = search needs
 
-any-outside-requires : tie.Need-any-outside-requires
-any-outside-requires c κs =
+is-unfit-requires : tie.Need-is-unfit-requires
+is-unfit-requires c κs =
     let read = c .before .before in
     let a = read .before .before .args in
     few-read (a .w) (a .list .now) (read .read .ensures)
@@ -22,7 +22,7 @@ returns c =
     let back = tested .before .before in
     let read = back .before in
     let a = read .before .before .args in
-    row-21 (a .w) (a .list .now) (read .read .ensures) (back .if1 .taken) (tested .any-outside .ensures) (c .before .if2 .taken) (c .no-list .ensures)
+    row-21 (a .w) (a .list .now) (read .read .ensures) (back .if1 .taken) (tested .is-unfit .ensures) (c .before .if2 .taken) (c .no-list .ensures)
 
 returns-2 : tie.Need-returns-2
 returns-2 c =
@@ -30,7 +30,7 @@ returns-2 c =
     let back = tested .before .before in
     let read = back .before in
     let a = read .before .before .args in
-    goes-down (a .w) (a .list .now) (read .read .ensures) (back .if1 .taken) (tested .any-outside .ensures) (c .if2 .left)
+    goes-down (a .w) (a .list .now) (read .read .ensures) (back .if1 .taken) (tested .is-unfit .ensures) (c .if2 .left)
 
 returns-3 : tie.Need-returns-3
 returns-3 c =
@@ -40,4 +40,4 @@ returns-3 c =
 
 pub list-for-spec : {M : Type 1} → statement M
 list-for-spec =
-    tie.close (tie.spec read-requires any-outside-requires no-list-requires returns returns-2 returns-3)
+    tie.close (tie.spec read-requires is-unfit-requires no-list-requires returns returns-2 returns-3)

@@ -5,13 +5,16 @@ use Rattle.exhaustive.proofs.is_level.Statement.{statement}
 use Rattle.exhaustive.proofs.is_level.Tie as tie
 
 abbrev Inv-loop : tie.InvT-loop
-Inv-loop parts sets d₀ d = d ≤ 12
+Inv-loop parts sets crews d₀ d = d ≤ 12
 
 abbrev μ-loop : tie.MeasureT-loop
-μ-loop parts sets d₀ d = 12 - d
+μ-loop parts sets crews d₀ d = 12 - d
 
 loop-holds : tie.Need-loop-holds Inv-loop μ-loop
 loop-holds c = omega arith
+
+cast-single : tie.Need-cast-single Inv-loop μ-loop
+cast-single c = omega arith
 
 single-requires : tie.Need-single-requires Inv-loop μ-loop
 single-requires c κs = tt
@@ -24,6 +27,15 @@ load-requires c κs = tt
 
 carried-requires : tie.Need-carried-requires Inv-loop μ-loop
 carried-requires c κs = tt
+
+mul-product : tie.Need-mul-product Inv-loop μ-loop
+mul-product c = omega arith
+
+array-read-product : tie.Need-array-read-product Inv-loop μ-loop
+array-read-product c = omega arith
+
+product-requires : tie.Need-product-requires Inv-loop μ-loop
+product-requires c κs = tt
 
 returns : tie.Need-returns Inv-loop μ-loop
 returns c = tt
@@ -47,10 +59,14 @@ is-level-spec =
     Inv-loop
     μ-loop
     loop-holds
+    cast-single
     single-requires
     place-requires
     load-requires
     carried-requires
+    mul-product
+    array-read-product
+    product-requires
     returns
     add-d
     loop-less

@@ -5,10 +5,10 @@ use Rattle.exhaustive.proofs.next_group.Statement.{statement}
 use Rattle.exhaustive.proofs.next_group.Tie as tie
 
 abbrev Inv-loop : tie.InvT-loop
-Inv-loop sites free grouped best₀ most₀ many₀ x₀ best most many x = x ≤ 4096
+Inv-loop sites crews free grouped best₀ most₀ many₀ x₀ best most many x = x ≤ 4096
 
 abbrev μ-loop : tie.MeasureT-loop
-μ-loop sites free grouped best₀ most₀ many₀ x₀ best most many x = 4096 - x
+μ-loop sites crews free grouped best₀ most₀ many₀ x₀ best most many x = 4096 - x
 
 returns : tie.Need-returns Inv-loop μ-loop
 returns c = tt

@@ -5,10 +5,10 @@ use Rattle.exhaustive.proofs.parts.Statement.{statement}
 use Rattle.exhaustive.proofs.parts.Tie as tie
 
 abbrev Inv-loop : tie.InvT-loop
-Inv-loop count sets sites plan out₀ i₀ out i = i ≤ 16
+Inv-loop count sets sites crews plan out₀ i₀ out i = i ≤ 16
 
 abbrev μ-loop : tie.MeasureT-loop
-μ-loop count sets sites plan out₀ i₀ out i = 16 - i
+μ-loop count sets sites crews plan out₀ i₀ out i = 16 - i
 
 no-site-requires : tie.Need-no-site-requires Inv-loop μ-loop
 no-site-requires c κs = tt

@@ -5,19 +5,25 @@ use Rattle.exhaustive.proofs.size.Statement.{statement}
 use Rattle.exhaustive.proofs.size.Tie as tie
 
 abbrev Inv-loop : tie.InvT-loop
-Inv-loop set n₀ d₀ n d = d ≤ 12
+Inv-loop set crews n₀ d₀ n d = d ≤ 12
 
 abbrev μ-loop : tie.MeasureT-loop
-μ-loop set n₀ d₀ n d = 12 - d
+μ-loop set crews n₀ d₀ n d = 12 - d
 
 loop-holds : tie.Need-loop-holds Inv-loop μ-loop
 loop-holds c = omega arith
 
-cast-sum : tie.Need-cast-sum Inv-loop μ-loop
-cast-sum c = omega arith
+cast-single : tie.Need-cast-single Inv-loop μ-loop
+cast-single c = omega arith
 
-shr-sum : tie.Need-shr-sum Inv-loop μ-loop
-shr-sum c = omega arith
+single-requires : tie.Need-single-requires Inv-loop μ-loop
+single-requires c κs = tt
+
+mul-sum : tie.Need-mul-sum Inv-loop μ-loop
+mul-sum c = omega arith
+
+array-read-sum : tie.Need-array-read-sum Inv-loop μ-loop
+array-read-sum c = omega arith
 
 sum-requires : tie.Need-sum-requires Inv-loop μ-loop
 sum-requires c κs = tt
@@ -41,8 +47,10 @@ size-spec =
     Inv-loop
     μ-loop
     loop-holds
-    cast-sum
-    shr-sum
+    cast-single
+    single-requires
+    mul-sum
+    array-read-sum
     sum-requires
     add-d
     loop-less

@@ -17,11 +17,11 @@ use Rattle.layout.proofs.list_by.Statement.{statement}
 use Rattle.layout.proofs.list_by.Tie as tie
 
 abbrev Inv-loop : tie.InvT-loop
-Inv-loop t size n places sites₀ i₀ at₀ sites i at =
+Inv-loop t size n roll places sites₀ i₀ at₀ sites i at =
     (i ≤ places) × (at ≡ size * i) × (sites ≡ overlay i (sitesIn (size - 2) t) (replicate 512 noSite))
 
 abbrev μ-loop : tie.MeasureT-loop
-μ-loop t size n places sites₀ i₀ at₀ sites i at = places - i
+μ-loop t size n roll places sites₀ i₀ at₀ sites i at = places - i
 
 -- where the loop's test passed: the beginning, and what is known of the bytes
 abbrev known : tie.In-loop Inv-loop μ-loop → tie.After-shared-slice-known Inv-loop μ-loop
@@ -103,6 +103,7 @@ returns c =
     let s = k .before .before .before in
     let a = s .args in
     let t = a .t .now in (
+      refl,
       refl,
       λ few room.
           let by : placesIn (a .size - 2) t ≡ length t / a .size = places-by (a .size) t (s .pre .0) in

@@ -1,20 +1,25 @@
 -- `layout::store_in` meets its contract. Assumes nothing.
 use Prim.Native.Nat.{_≤_}
-use mathlib.Core.Path.{_≡_, sym}
+use mathlib.Core.Path.{_≡_, sym, _∙_}
 use native.Mathlib.Nat.{mul-le-mul-left}
 use native.Mathlib.Omega.{arith}
 use borrow.Author.Needs.{needs}
 use lib.ListN.{length, take}
 use lib.Seq.{length-take-le}
-use Rattle.layout.proofs.Reading.{front-read, behind-kept, store-read, store-none}
+use Rattle.layout.proofs.Reading.{front-read, behind-kept, store-read, store-none, store-wrong}
 use Rattle.layout.proofs.store_in.Statement.{statement}
 use Rattle.layout.proofs.store_in.Tie as tie
 
--- where both counts are known, from the beginning
+-- where both counts are known: where the roll's number was tried, and the beginning
+abbrev tested : tie.After-least2 → tie.Else2
+tested c =
+    let f = c .before .before in
+    f .before .before
+
 abbrev start : tie.After-least2 → tie.Start
 start c =
-    let f = c .before .before .before in
-    f .before .before .before .before .before .before
+    let f = tested c .before .before .before in
+    f .before .before .before .before
 
 -- as many places are lent as there are, and no more than are asked for
 groups-lent : (c : tie.After-least2) → length (take (c .before .least .result) (start c .args .groups .now)) ≡ c .before .least .result
@@ -30,11 +35,35 @@ shares-lent c =
 field-requires : tie.Need-field-requires
 field-requires c κs = search needs
 
+no-store-requires : tie.Need-no-store-requires
+no-store-requires c κs = search needs
+
 returns : tie.Need-returns
 returns c =
-    let f = c .before in
+    let f = c .before .before in
     let a = f .before .before .before .before .args in
-    store-none (a .w) (a .s .now) (a .groups .now) (a .shares .now) (f .field .ensures) (c .if1 .taken)
+    store-none (a .w) (a .rolls) (a .s .now) (a .groups .now) (a .shares .now) (f .field .ensures) (c .before .if1 .taken) (c .no-store .ensures)
+
+mul-front : tie.Need-mul-front
+mul-front c = search needs
+
+add-front : tie.Need-add-front
+add-front c = search needs
+
+is-roll-wrong-requires : tie.Need-is-roll-wrong-requires
+is-roll-wrong-requires c κs =
+    let f = c .before in
+    f .before .before .before .before .pre .1
+
+no-store-requires-2 : tie.Need-no-store-requires-2
+no-store-requires-2 c κs = search needs
+
+returns-2 : tie.Need-returns-2
+returns-2 c =
+    let r = c .before .before in
+    let f = r .before .before in
+    let a = f .before .before .before .before .args in
+    store-wrong (a .w) (a .rolls) (a .s .now) (a .groups .now) (a .shares .now) (sym (r .is-roll-wrong .ensures) ∙ c .before .if2 .taken) (c .no-store2 .ensures)
 
 field-requires-2 : tie.Need-field-requires-2
 field-requires-2 c κs = search needs
@@ -76,27 +105,36 @@ numbers-in-requires-2 c κs =
     let few : length (take (q .least2 .result) (s .args .shares .now)) ≤ 512 = omega (arith, shares-lent q, q .least2 .ensures) in
     (s .pre .0, omega (arith, mul-le-mul-left (s .args .w) few, s .pre .1))
 
+-- where the shares are read too
+abbrev read : tie.After-slice-known4 → tie.After-slice-known3
+read c = c .before .before .before .before
+
+roll-in-requires : tie.Need-roll-in-requires
+roll-in-requires c κs = start (counted (read c)) .pre .1
+
 same-length : tie.Need-same-length
 same-length c = search needs
 
 same-length-2 : tie.Need-same-length-2
 same-length-2 c = search needs
 
-returns-2 : tie.Need-returns-2
-returns-2 c =
-    let m = c .before .before in
-    let g = m .before .before in
+returns-3 : tie.Need-returns-3
+returns-3 c =
+    let m = c .before .before .before in
+    let g = read (c .before) in
     let q = counted g in
     let s = start q in
     let a = s .args in
     let f = q .before .before in
-    let i = f .before .before in
+    let t = tested q in
+    let i = t .before .before in
     let n = f .before .field2 .result in
     let gs = g .before .before .numbers-in in
     let ss = m .numbers-in2 in
     let few = q .before .least .ensures in
     let room = q .least2 .ensures in
-    store-read (a .w) (a .s .now) (i .before .field .ensures) (i .if1 .left) (f .before .field2 .ensures) (f .field3 .ensures)
+    store-read (a .w) (a .rolls) (a .s .now) (i .before .field .ensures) (i .if1 .left) (sym (t .before .is-roll-wrong .ensures) ∙ t .if2 .left)
+    (f .before .field2 .ensures) (f .field3 .ensures) (c .roll-in .ensures)
     (front-read 8 (f .field3 .result) 64 24 (a .s .now) (gs .last .0) (a .groups .now) few (groups-lent q) (gs .ensures))
     (front-read (a .w) n 512 536 (a .s .now) (ss .last .0) (a .shares .now) room (shares-lent q) (ss .ensures))
     (behind-kept 8 (f .field3 .result) 64 24 (a .s .now) (gs .last .0) (a .groups .now) few (groups-lent q) (gs .ensures))
@@ -107,7 +145,13 @@ store-in-spec =
     tie.close
     (tie.spec
     field-requires
+    no-store-requires
     returns
+    mul-front
+    add-front
+    is-roll-wrong-requires
+    no-store-requires-2
+    returns-2
     field-requires-2
     field-requires-3
     least-requires
@@ -118,6 +162,7 @@ store-in-spec =
     slice-relend-prefix-numbers-in-2
     slice-aggregate-numbers-in-2
     numbers-in-requires-2
+    roll-in-requires
     same-length
     same-length-2
-    returns-2)
+    returns-3)

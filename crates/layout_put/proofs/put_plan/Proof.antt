@@ -8,12 +8,13 @@ use lib.ListN.{length, take, drop, getD}
 use borrow.Rule.Slice.PartMut.{putMid}
 use Rattle.held_state.specs.declared.Store.{Store}
 use Rattle.records.specs.Bytes.{le}
+use Rattle.records.specs.declared.RollArray.{RollArray}
 use Rattle.records.specs.Write.{onto}
 use Rattle.records.proofs.Bytes.{length-le}
 use Rattle.records.proofs.Buffers.{Front, front-none, front-next, front-lent, length-flat}
 use Rattle.layout.specs.Layout.{StoreFits}
-use Rattle.layout_put.specs.Put.{PutStore}
-use Rattle.layout_put.proofs.RoundTrip.{store-put}
+use Rattle.layout_put.specs.Put.{PutFront}
+use Rattle.layout_put.proofs.RoundTrip.{front-put}
 use borrow.Author.Needs.{needs}
 use Rattle.layout_put.proofs.put_plan.Statement.{statement}
 use Rattle.layout_put.proofs.put_plan.Tie as tie
@@ -34,10 +35,10 @@ start d =
     let k = first d .before .before in
     k .before .before .before
 
-abbrev store : tie.After-slice-known5 → Store
-store d =
+abbrev store : tie.After-slice-known5 → RollArray → Store
+store d roll =
     let a = start d .args in
-    record { count = a .count; held = true; grouped = a .grouped; groups = a .groups .now; shares = a .shares .now }
+    record { count = a .count; held = true; grouped = a .grouped; groups = a .groups .now; shares = a .shares .now; roll = roll }
 
 abbrev out₄ : tie.After-slice-known5 → List ℕ
 out₄ d =
@@ -45,7 +46,7 @@ out₄ d =
     putMid 24 (length o - 24) o (d .before .before .put-numbers .last .0)
 
 front : (d : tie.After-slice-known5)
-    → Front (((([] ++ le 8 (store d .count)) ++ le 8 1) ++ le 8 (store d .grouped)) ++ flatMap (le 8) (store d .groups)) (start d .args .out .now) (out₄ d) 536
+    → let a = start d .args in Front (((([] ++ le 8 (a .count)) ++ le 8 1) ++ le 8 (a .grouped)) ++ flatMap (le 8) (a .groups .now)) (a .out .now) (out₄ d) 536
 front d =
     let s = start d in
     let a = s .args in
@@ -55,8 +56,8 @@ front d =
     let f₃ = front-next (le 8 (a .grouped)) (length-le 8 (a .grouped)) f₂ (third d .number-at3 .ensures) in
     front-lent (flatMap (le 8) (a .groups .now)) (length-flat (le 8) 8 (length-le 8) (a .groups .now) ∙ ap (λ (k : ℕ). 8 * k) (s .pre .1)) f₃ (d .before .before .put-numbers .ensures)
 
-fits : (d : tie.After-slice-known5) → ((i : ℕ) → getD (store d .shares) i 0 < 256 ^ start d .args .w) → StoreFits (start d .args .w) (store d)
-fits d f =
+fits : (d : tie.After-slice-known5) (roll : RollArray) → ((i : ℕ) → getD (start d .args .shares .now) i 0 < 256 ^ start d .args .w) → StoreFits (start d .args .w) (store d roll)
+fits d roll f =
     let s = start d in
     let k = first d .before .before .before in
     record {
@@ -70,15 +71,16 @@ fits d f =
 
 -- the shares are written behind them, by their width
 written : (d : tie.After-slice-known5) (w : ℕ) (ys : List ℕ) → start d .args .w ≡ w
-    → ys ≡ onto (flatMap (le w) (store d .shares)) (take (length (out₄ d) - 536) (drop 536 (out₄ d))) → PutStore (start d .args .w) (store d) (putMid 536 (length (out₄ d) - 536) (out₄ d) ys)
-written d w ys e is =
+    → ys ≡ onto (flatMap (le w) (start d .args .shares .now)) (take (length (out₄ d) - 536) (drop 536 (out₄ d)))
+    → (roll : RollArray) → PutFront (start d .args .w) (store d roll) (start d .args .out .now) (putMid 536 (length (out₄ d) - 536) (out₄ d) ys)
+written d w ys e is roll =
     let s = start d in
     let v = s .args .w in
-    let shares = store d .shares in
+    let shares = s .args .shares .now in
     let lent = take (length (out₄ d) - 536) (drop 536 (out₄ d)) in
     let f₅ = front-lent (flatMap (le v) shares) (length-flat (le v) v (length-le v) shares ∙ ap (λ (k : ℕ). v * k) (s .pre .2)) (front d)
     (is ∙ ap (λ (k : ℕ). onto (flatMap (le k) shares) lent) (sym e)) in
-    store-put v (store d) (s .pre .1) (s .pre .2) (fits d) (s .pre .0) refl f₅
+    front-put v (store d roll) refl f₅
 
 number-at-requires : tie.Need-number-at-requires
 number-at-requires c κs = search needs
@@ -120,7 +122,7 @@ returns : tie.Need-returns
 returns c =
     let p = c .before .before in
     let i = p .before .before in
-    written (i .before) 4 (p .put-numbers2 .last .0) (i .if1 .taken) (p .put-numbers2 .ensures)
+    (written (i .before) 4 (p .put-numbers2 .last .0) (i .if1 .taken) (p .put-numbers2 .ensures), fits (i .before))
 
 sub-put-numbers-3 : tie.Need-sub-put-numbers-3
 sub-put-numbers-3 c = search needs
@@ -143,7 +145,7 @@ returns-2 : tie.Need-returns-2
 returns-2 c =
     let p = c .before .before in
     let i = p .before .before in
-    written (i .before) _ (p .put-numbers3 .last .0) refl (p .put-numbers3 .ensures)
+    (written (i .before) _ (p .put-numbers3 .last .0) refl (p .put-numbers3 .ensures), fits (i .before))
 
 pub put-plan-spec : {M : Type 1} → statement M
 put-plan-spec =

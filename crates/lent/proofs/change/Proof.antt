@@ -10,6 +10,7 @@ use lib.ListN.{length, set}
 use Rattle.density.specs.declared.Site.{Site}
 use Rattle.density.specs.Network.{siteAt}
 use Rattle.held_state.specs.Held.{State, listOf, corrupt}
+use Rattle.records.specs.Bytes.{Bytes}
 use Rattle.store.specs.declared.Request.the-variants as request
 use Rattle.store.specs.Calls.{Call, same, done}
 use Rattle.store.specs.Model.{withLitres}
@@ -20,7 +21,7 @@ use Rattle.layout.specs.Layout.{placeSize, placesIn}
 use Rattle.layout.proofs.Reading.{length-sites}
 use Rattle.layout.proofs.Places.{place-room}
 use Rattle.lent.specs.Lent.{stateIn}
-use Rattle.lent.proofs.Served.{sized-is, at-small, keeps, puts-site, changed-is, changed-small}
+use Rattle.lent.proofs.Served.{front-room, at-small, keeps, keeps-bare, puts-site, changed-is, changed-small}
 use Rattle.lent.proofs.change.Statement.{statement}
 use Rattle.lent.proofs.change.Tie as tie
 
@@ -40,7 +41,7 @@ row-zero-requires c κs =
     (s .pre .0, s .pre .1)
 
 sound : (c : tie.Else1) → corrupt (state (c .before)) ≡ false
-sound c = sym (c .before .row-zero .ensures .2) ∙ c .if1 .left
+sound c = sym (c .before .row-zero .ensures .3) ∙ c .if1 .left
 
 abbrev asked : tie.After-row-zero → List ℕ → List ℕ → Call
 asked c input buffer = record { request = request.Change (start c .args .i) (start c .args .w); input = input; buffer = buffer }
@@ -56,7 +57,7 @@ returns c = λ input buffer b.
     let k = c .before in
     let a = start k .args in
     keeps (a .e) (now (a .store)) (now (a .table)) (asked k input buffer) b refl
-    (zero-step (state k) (asked k input buffer) refl (sym (k .row-zero .ensures .2) ∙ c .if1 .taken))
+    (zero-step (state k) (asked k input buffer) refl (sym (k .row-zero .ensures .3) ∙ c .if1 .taken))
 
 change-row-requires : tie.Need-change-row-requires
 change-row-requires c κs = search needs
@@ -92,7 +93,7 @@ passed : (c : tie.After-enum-told) (input buffer : List ℕ)
     → let k = decided c in
     let a = start k .args in
     let q = asked k input buffer in
-    (step (state k) q ≡ next (state k) (bare (state k .store .count)) (set (state k .table) (a .i) (withLitres (siteAt (listOf (state k)) (a .i)) (a .w))) (same q done))
+    (step (state k) q ≡ next (state k) (bare (state k .store .count) (state k .store .roll)) (set (state k .table) (a .i) (withLitres (siteAt (listOf (state k)) (a .i)) (a .w))) (same q done))
     × (a .i < state k .store .count)
 passed c input buffer =
     let r = c .before .before in
@@ -143,7 +144,7 @@ put-bare-requires c κs =
     let p = c .before .before .before in
     let t = p .before .before .before .before .before in
     let s = start (decided t) in
-    sized-is (s .args .e) (now (s .args .store)) (s .pre .1)
+    front-room (s .args .e) (now (s .args .store)) (s .pre .1)
 
 same-length-5 : tie.Need-same-length-5
 same-length-5 c = search needs
@@ -164,12 +165,16 @@ returns-3 c = λ input buffer b.
     let g = passed t input buffer in
     let small = changed-small (a .e) (now (a .store)) (now (a .table)) (g .1) (placed t) (λ i. f .slice-known2 .given i .fits) in
     let is = x .site-in .ensures in
-    puts-site (a .e) (now (a .store)) (now (a .table)) q b (λ i. f .before .slice-known .given i .fits) (λ i. f .slice-known2 .given i .fits) (start k .pre .2)
+    let roll = state k .store .roll in
+    let few = held-count (state k) (sound (t .before .before .before)) .0 in
+    let known : Bytes (now (a .store)) = λ i. f .before .slice-known .given i .fits in
+    let put = keeps-bare (a .e) (now (a .store)) (start k .pre .1) known few (omega (arith, few, k .row-zero .ensures .0)) roll refl (p .put-bare .ensures roll) in
+    puts-site (a .e) (now (a .store)) (now (a .table)) q b known (λ i. f .slice-known2 .given i .fits) (start k .pre .2)
     (placed t) (subst (λ (y : Site). y .first < 256) (sym is) (small .0)) (subst (λ (y : Site). y .second < 256) (sym is) (small .1)) (start k .pre .2)
     (g .0
-    ∙ ap₂ (λ (n : ℕ) (y : Site). next (state k) (bare n) (set (state k .table) (a .i) y) (same q done)) (sym (k .row-zero .ensures .0))
+    ∙ ap₂ (λ (n : ℕ) (y : Site). next (state k) (bare n roll) (set (state k .table) (a .i) y) (same q done)) (sym (k .row-zero .ensures .0))
     (changed-is (a .e) (now (a .store)) (now (a .table)) (g .1) (placed t) (a .w) ∙ ap (λ (y : Site). withLitres y (a .w)) (sym is)))
-    (p .put-bare .ensures) (p .put-bare .kept .0) (w .put-site .ensures)
+    put (p .put-bare .kept .0) (w .put-site .ensures)
 
 pub change-spec : {M : Type 1} → statement M
 change-spec =

@@ -1,18 +1,28 @@
 -- `lent::fresh` meets its contract. Assumes nothing.
+use mathlib.Core.Path.{subst}
 use borrow.Author.Needs.{needs}
-use denote.Ref.{now}
-use Rattle.lent.proofs.Served.{sized-is, fresh-put}
+use Rattle.records.specs.declared.RollArray.{RollArray}
+use Rattle.store.specs.State.{bare}
+use Rattle.layout_put.specs.Put.{PutStore}
+use Rattle.lent.proofs.Served.{fresh-put}
 use Rattle.lent.proofs.fresh.Statement.{statement}
 use Rattle.lent.proofs.fresh.Tie as tie
 
-put-bare-requires : tie.Need-put-bare-requires
-put-bare-requires c κs = let s = c .before .before in sized-is (s .args .e) (now (s .args .store)) (s .pre)
+no-roll-requires : tie.Need-no-roll-requires
+no-roll-requires c κs = search needs
+
+put-new-requires : tie.Need-put-new-requires
+put-new-requires c κs = search needs
 
 same-length : tie.Need-same-length
 same-length c = search needs
 
 returns : tie.Need-returns
-returns c = let p = c .before .before in fresh-put (p .before .before .before .args .e) (p .put-bare .ensures)
+returns c =
+    let p = c .before .before in
+    let n = p .before .before in
+    let e = n .before .before .args .e in
+    fresh-put e (subst (λ (roll : RollArray). PutStore (e .share) (e .roll) (bare 0 roll) (p .put-new .last .1 .0)) (n .no-roll .ensures) (p .put-new .ensures))
 
 pub fresh-spec : {M : Type 1} → statement M
-fresh-spec = tie.close (tie.spec put-bare-requires same-length returns)
+fresh-spec = tie.close (tie.spec no-roll-requires put-new-requires same-length returns)

@@ -6,7 +6,7 @@ use borrow.Author.Needs.{needs}
 use denote.Ref.{now}
 use Rattle.store.specs.declared.Request.the-variants as request
 use Rattle.store.specs.Calls.{Call}
-use Rattle.lent.proofs.Served.{sized-is, places-fit, keeps, puts-sites}
+use Rattle.lent.proofs.Served.{places-fit, keeps, puts-sites}
 use Rattle.lent.proofs.Loaded.{Fills, load-fills, load-keeps}
 use Rattle.lent.proofs.load.Statement.{statement}
 use Rattle.lent.proofs.load.Tie as tie
@@ -32,7 +32,7 @@ asked c buffer = record { request = request.Load; input = now (start c .args .in
 fills : (c : tie.After-answer) (buffer : List ℕ)
     → let r = c .before .before in
     let a = start r .args in
-    Fills (a .e) (now (a .store)) (now (a .table)) (asked r buffer) (c .answer .given .0 .0) (r .read .result .list .sites)
+    Fills (a .e) (now (a .store)) (now (a .table)) (asked r buffer) (c .answer .given .0 .0) (r .read .result .list .sites) (r .read .result .list .roll)
 fills c buffer =
     let r = c .before .before in
     let a = start r .args in
@@ -40,17 +40,16 @@ fills c buffer =
 
 put-sites-requires : tie.Need-put-sites-requires
 put-sites-requires c κs =
-    let d = c .before .before .before .before in
+    let d = c .before .before .before .before .before in
     let a = start (d .before .before) .args in
     let f = fills d (now (a .input)) in
     (f .few, places-fit (a .e .litres) _ (now (a .table)) (f .room))
 
-put-bare-requires : tie.Need-put-bare-requires
-put-bare-requires c κs =
+put-new-requires : tie.Need-put-new-requires
+put-new-requires c κs =
     let p = c .before .before .before in
-    let d = p .before .before .before .before .before in
-    let s = start (d .before .before) in
-    sized-is (s .args .e) (now (s .args .store)) (s .pre .1)
+    let d = p .before .before .before .before .before .before in
+    start (d .before .before) .pre .1
 
 enum-known-answer-2 : tie.Need-enum-known-answer-2
 enum-known-answer-2 c = search needs
@@ -65,13 +64,13 @@ returns : tie.Need-returns
 returns c = λ buffer.
     let b = c .before .before in
     let p = b .before .before .before .before in
-    let d = p .before .before .before .before .before in
+    let d = p .before .before .before .before .before .before in
     let r = d .before .before in
     let k = r .before .before in
     let a = start r .args in
     let f = fills d buffer in
     puts-sites (a .e) (now (a .store)) (now (a .table)) (asked r buffer) (λ i. k .shared-slice-known .given i .fits) (λ i. k .before .before .slice-known .given i .fits)
-    (λ i. k .before .slice-known2 .given i .fits) tt (f .few) (f .room) (f .steps) (b .put-bare .ensures) (b .put-bare .kept .0) (p .put-sites .ensures)
+    (λ i. k .before .slice-known2 .given i .fits) tt (f .few) (f .room) (f .steps) (b .put-new .ensures) (b .put-new .kept .1 .0) (p .put-sites .ensures)
 
 returns-2 : tie.Need-returns-2
 returns-2 c = λ buffer.
@@ -90,7 +89,7 @@ load-spec =
     read-requires
     enum-known-answer
     put-sites-requires
-    put-bare-requires
+    put-new-requires
     enum-known-answer-2
     same-length
     same-length-2

@@ -33,7 +33,7 @@ slice-aggregate-answer-2 : tie.Need-slice-aggregate-answer-2
 slice-aggregate-answer-2 c = search needs
 
 abbrev read : tie.After-summary → tie.After-store-in
-read c = let l = c .before in l .before .before .before
+read c = let l = c .before .before in l .before .before .before
 
 abbrev start : tie.After-summary → tie.Start
 start c = let r = read c .before .before .before in r .before .before .before
@@ -44,7 +44,7 @@ state c = let a = start c .args in stateIn (a .e) (now (a .store)) (now (a .tabl
 -- what is read stands for the state
 standing : (c : tie.After-summary)
     → let p = read c .store-in in
-    Stands (state c) (c .before .list-in .result) (c .summary .result) (p .last .1 .1 .0) (p .last .1 .1 .1 .0)
+    Stands (state c) (c .before .list-in .result) (c .summary .result) (p .last .1 .1 .1 .0) (p .last .1 .1 .1 .1 .0)
 standing c =
     let a = start c .args in
     let k = c .summary .ensures in
@@ -54,7 +54,7 @@ answer-requires : tie.Need-answer-requires
 answer-requires c κs =
     let k = c .before .before .before in
     let l = k .before .list-in in
-    (start k .pre .0, search needs, search needs, k .summary .ensures .3 (l .result) (l .ensures .0) (l .ensures .1), start k .pre .2)
+    (start k .pre .0, search needs, search needs, k .summary .ensures .3 (l .result) (l .ensures .0) (l .ensures .2), start k .pre .2)
 
 same-length : tie.Need-same-length
 same-length c = search needs

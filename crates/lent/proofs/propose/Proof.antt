@@ -6,17 +6,20 @@ use Prim.Native.Nat.{ℕ}
 use borrow.Author.Needs.{needs}
 use denote.Ref.{now}
 use lib.Dec.{T}
-use Rattle.density.specs.Network.{Listing, depotsInRange}
+use Rattle.density.specs.Network.{Listing, inRange}
 use Rattle.held_state.specs.Held.{State, corrupt}
 use Rattle.held_state.specs.Values.{Stands}
 use Rattle.held_state.proofs.Intact.{good-range, intact→}
 use Rattle.held_state.proofs.Standing.{stands-few, stands-list}
+use Rattle.records.specs.declared.PlanArray.{PlanArray}
+use Rattle.records.specs.Bytes.{Bytes}
 use Rattle.store.specs.declared.Request.the-variants as request
 use Rattle.store.specs.Calls.{Call}
 use Rattle.store.proofs.Settled.{zero-step}
+use Rattle.store_calls.proofs.Steps.{held-count}
 use Rattle.lent.specs.Lent.{stateIn}
-use Rattle.lent.proofs.Served.{sized-is, stands, keeps, puts-plan}
-use Rattle.lent.proofs.Loaded.{Holds, proposal-holds, proposal-keeps}
+use Rattle.lent.proofs.Served.{sized-is, front-room, stands, keeps, keeps-roll, puts-plan}
+use Rattle.lent.proofs.Loaded.{written, Holds, proposal-holds, proposal-keeps}
 use Rattle.lent.proofs.propose.Statement.{statement}
 use Rattle.lent.proofs.propose.Tie as tie
 
@@ -44,7 +47,7 @@ slice-aggregate-is-corrupt-2 : tie.Need-slice-aggregate-is-corrupt-2
 slice-aggregate-is-corrupt-2 c = search needs
 
 abbrev read : tie.After-summary → tie.After-store-in
-read c = let l = c .before in l .before .before .before
+read c = let l = c .before .before in l .before .before .before
 
 abbrev start : tie.After-summary → tie.Start
 start c = let r = read c .before .before .before in r .before .before .before .before
@@ -52,8 +55,15 @@ start c = let r = read c .before .before .before in r .before .before .before .b
 abbrev summed : tie.After-is-corrupt → tie.After-summary
 summed c = c .before .before .before
 
+-- from where the plan has passed: where row 0 has, and the plan
+abbrev passed : tie.After-enum-told → tie.Else1
+passed c = let r = c .before .before in r .before
+
+abbrev planned : tie.After-enum-told → PlanArray
+planned c = let r = c .before .before in r .plan-for .result .plan
+
 abbrev decided : tie.After-enum-told → tie.After-summary
-decided c = let r = c .before .before in summed (r .before .before)
+decided c = summed (passed c .before)
 
 abbrev state : tie.After-summary → State
 state c = let a = start c .args in stateIn (a .e) (now (a .store)) (now (a .table))
@@ -61,7 +71,7 @@ state c = let a = start c .args in stateIn (a .e) (now (a .store)) (now (a .tabl
 -- what is read stands for the state
 standing : (c : tie.After-summary)
     → let p = read c .store-in in
-    Stands (state c) (c .before .list-in .result) (c .summary .result) (p .last .1 .1 .0) (p .last .1 .1 .1 .0)
+    Stands (state c) (c .before .list-in .result) (c .summary .result) (p .last .1 .1 .1 .0) (p .last .1 .1 .1 .1 .0)
 standing c =
     let a = start c .args in
     let k = c .summary .ensures in
@@ -79,7 +89,7 @@ is-corrupt-requires : tie.Need-is-corrupt-requires
 is-corrupt-requires c κs =
     let k = c .before .before in
     let l = k .before .list-in in
-    (search needs, search needs, k .summary .ensures .3 (l .result) (l .ensures .0) (l .ensures .1))
+    (search needs, search needs, k .summary .ensures .3 (l .result) (l .ensures .0) (l .ensures .2))
 
 same-length : tie.Need-same-length
 same-length c = search needs
@@ -97,7 +107,7 @@ plan-for-requires c κs =
     let k = summed (c .before) in (
       start k .pre .0 .1,
       stands-few (standing k) (sound c),
-      subst (λ (l : Listing). T (depotsInRange l)) (sym (stands-list (standing k) (sound c))) (good-range _ (intact→ (state k) (sound c) .good)),
+      subst (λ (l : Listing). T (inRange l)) (sym (stands-list (standing k) (sound c))) (good-range _ (intact→ (state k) (sound c) .good)),
     )
 
 enum-known-answer : tie.Need-enum-known-answer
@@ -124,7 +134,7 @@ holds : (c : tie.After-enum-told) (buffer : List ℕ)
     → let r = c .before .before in
     let k = summed (r .before .before) in
     let a = start k .args in
-    Holds (a .e) (now (a .store)) (now (a .table)) (asked k buffer) (read k .store-in .result .count) (r .plan-for .result .plan)
+    Holds (a .e) (now (a .store)) (now (a .table)) (asked k buffer) (read k .store-in .result .count) (planned c)
 holds c buffer =
     let r = c .before .before in
     let k = summed (r .before .before) in
@@ -143,7 +153,7 @@ put-plan-requires : tie.Need-put-plan-requires
 put-plan-requires c κs =
     let t = c .before .before .before .before .before .before in
     let s = start (decided t) in
-    (sized-is (s .args .e) (now (s .args .store)) (s .pre .1), holds t [] .many, holds t [] .each)
+    (front-room (s .args .e) (now (s .args .store)) (s .pre .1), holds t [] .many, holds t [] .each)
 
 same-length-3 : tie.Need-same-length-3
 same-length-3 c = search needs
@@ -155,9 +165,14 @@ returns-3 c = λ buffer.
     let k = decided t in
     let f = read k .before .before .before .before in
     let a = start k .args in
+    let h = holds t buffer in
+    let roll = state k .store .roll in
+    let known : Bytes (now (a .store)) = λ i. f .before .before .slice-known .given i .fits in
+    let few = held-count (state k) (sound (passed t)) .0 in
+    let store = written (read k .store-in .result .count) (planned t) roll in
+    let put = keeps-roll (a .e) (now (a .store)) store (start k .pre .1) known few (h .many) (h .each) (p .put-plan .ensures .1 roll) refl (p .put-plan .ensures .0 roll) in
     puts-plan (a .e) (now (a .store)) (now (a .table)) (asked k buffer) (λ i. f .shared-slice-known2 .given i .fits)
-    (λ i. f .before .before .slice-known .given i .fits) (λ i. f .before .shared-slice-known .given i .fits) tt (holds t buffer .steps)
-    (p .put-plan .ensures) (p .put-plan .kept .0)
+    known (λ i. f .before .shared-slice-known .given i .fits) tt (h .steps) put (p .put-plan .kept .0)
 
 pub propose-spec : {M : Type 1} → statement M
 propose-spec =

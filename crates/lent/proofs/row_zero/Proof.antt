@@ -34,7 +34,7 @@ slice-aggregate-is-corrupt-2 : tie.Need-slice-aggregate-is-corrupt-2
 slice-aggregate-is-corrupt-2 c = search needs
 
 abbrev read : tie.After-summary → tie.After-store-in
-read c = let l = c .before in l .before .before .before
+read c = let l = c .before .before in l .before .before .before
 
 abbrev start : tie.After-summary → tie.Start
 start c = let f = read c .before .before .before in f .before .before
@@ -45,7 +45,7 @@ state c = let a = start c .args in stateIn (a .e) (now (a .store)) (now (a .tabl
 -- what is read stands for the state
 standing : (c : tie.After-summary)
     → let p = read c .store-in in
-    Stands (state c) (c .before .list-in .result) (c .summary .result) (p .last .1 .1 .0) (p .last .1 .1 .1 .0)
+    Stands (state c) (c .before .list-in .result) (c .summary .result) (p .last .1 .1 .1 .0) (p .last .1 .1 .1 .1 .0)
 standing c =
     let a = start c .args in
     let k = c .summary .ensures in
@@ -55,12 +55,12 @@ is-corrupt-requires : tie.Need-is-corrupt-requires
 is-corrupt-requires c κs =
     let k = c .before .before in
     let l = k .before .list-in in
-    (search needs, search needs, k .summary .ensures .3 (l .result) (l .ensures .0) (l .ensures .1))
+    (search needs, search needs, k .summary .ensures .3 (l .result) (l .ensures .0) (l .ensures .2))
 
 returns : tie.Need-returns
 returns c =
     let k = c .before .before .before in
-    (read k .store-in .ensures .count, k .summary .ensures .0, c .is-corrupt .ensures (state k) (standing k))
+    (read k .store-in .ensures .count, read k .store-in .ensures .roll, k .summary .ensures .0, c .is-corrupt .ensures (state k) (standing k))
 
 pub row-zero-spec : {M : Type 1} → statement M
 row-zero-spec =

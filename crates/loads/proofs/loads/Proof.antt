@@ -17,8 +17,8 @@ use Rattle.loads.proofs.loads.Statement.{statement}
 use Rattle.loads.proofs.loads.Tie as tie
 use Rattle.loads.proofs.loads.Code as code
 
--- The arrays of its code, by `refl`: another one is refused. The loads returned, and passed; the list's sites; in memory the running loads, and the sites.
-arrays-are : arrays (code.function) ≡ value 64 8 ∷ value 64 8 ∷ value 512 8 ∷ memory 64 8 ∷ memory 512 8 ∷ []
+-- The arrays of its code, by `refl`: another one is refused. The loads returned, and passed; the list's sites and roll; in memory the running loads, and the sites and the roll.
+arrays-are : arrays (code.function) ≡ value 64 8 ∷ value 64 8 ∷ value 512 8 ∷ value 64 1 ∷ memory 64 8 ∷ memory 512 8 ∷ memory 64 1 ∷ []
 arrays-are = refl
 
 abbrev Inv-loop : tie.InvT-loop

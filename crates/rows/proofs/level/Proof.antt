@@ -1,8 +1,9 @@
 -- `rows::level` meets its contract. Assumes nothing.
-use mathlib.Core.Path.{_≡_, refl, sym}
+use mathlib.Core.Path.{_≡_, refl}
 use mathlib.Core.List.{[]}
-use native.Mathlib.Nat.{one-mul}
-use Rattle.density.specs.Network.{network}
+use native.Mathlib.Nat.{mul-le-mul}
+use native.Mathlib.Omega.{arith}
+use borrow.Author.Needs.{needs}
 use Rattle.tables.proofs.Locals.{arrays}
 use Rattle.rows.proofs.level.Statement.{statement}
 use Rattle.rows.proofs.level.Tie as tie
@@ -12,9 +13,11 @@ use Rattle.rows.proofs.level.Code as code
 arrays-are : arrays (code.function) ≡ []
 arrays-are = refl
 
+mul-result : tie.Need-mul-result
+mul-result c = omega (arith, mul-le-mul (c .pre .0) (c .pre .1))
+
 returns : tie.Need-returns
-unfolding network
-returns c = λ l d. sym (one-mul (c .args .w))
+returns c = search needs
 
 pub level-spec : {M : Type 1} → statement M
-level-spec = tie.close (tie.spec returns)
+level-spec = tie.close (tie.spec mul-result returns)

@@ -31,11 +31,12 @@ refuse-requires-2 c κs = search needs
 returns-2 : tie.Need-returns-2
 returns-2 c = λ e input buffer.
     let v = c .before .before in
-    let z = v .before .before .before in
+    let r = v .before .before in
+    let z = r .before .before in
     let s = z .before .before in
     let wide : length (s .args .sites) ≡ 512 = search needs in
     let zero = subst (Zero (s .args .store) (s .args .sites) (s .args .places)) (z .if1 .left) (z .before .row-zero .ensures) in
-    let row = subst (AddRow (s .args .store) (s .args .sites) (s .args .places) (s .args .x)) (v .verdict .given .1) (v .before .before .add-row .ensures) in
+    let row = subst (AddRow (s .args .store) (s .args .sites) (s .args .places) (s .args .x)) (v .verdict .given .1) (r .add-row .ensures) in
     add-refused (s .args .store) (s .args .sites) (s .args .places) e input buffer _ wide zero (s .args .x) _ row (c .refuse2 .ensures)
 
 enum-told : tie.Need-enum-told
@@ -43,29 +44,32 @@ enum-told c = search needs
 
 mul-next : tie.Need-mul-next
 mul-next c = let v = c in
-    let z = v .before .before .before in
+    let r = v .before .before in
+    let z = r .before .before in
     let s = z .before .before in
     let wide : length (s .args .sites) ≡ 512 = search needs in
     let zero = subst (Zero (s .args .store) (s .args .sites) (s .args .places)) (z .if1 .left) (z .before .row-zero .ensures) in
-    let row = subst (AddRow (s .args .store) (s .args .sites) (s .args .places) (s .args .x)) (v .enum-told .given .1) (v .before .before .add-row .ensures) in
+    let row = subst (AddRow (s .args .store) (s .args .sites) (s .args .places) (s .args .x)) (v .enum-told .given .1) (r .add-row .ensures) in
     omega (arith, add-room (s .args .store) (s .args .sites) (s .args .places) wide zero (s .args .x) row .0)
 
 array-set-from-next : tie.Need-array-set-from-next
 array-set-from-next c = let v = c in
-    let z = v .before .before .before in
+    let r = v .before .before in
+    let z = r .before .before in
     let s = z .before .before in
     let wide : length (s .args .sites) ≡ 512 = search needs in
     let zero = subst (Zero (s .args .store) (s .args .sites) (s .args .places)) (z .if1 .left) (z .before .row-zero .ensures) in
-    let row = subst (AddRow (s .args .store) (s .args .sites) (s .args .places) (s .args .x)) (v .enum-told .given .1) (v .before .before .add-row .ensures) in
+    let row = subst (AddRow (s .args .store) (s .args .sites) (s .args .places) (s .args .x)) (v .enum-told .given .1) (r .add-row .ensures) in
     omega (arith, add-room (s .args .store) (s .args .sites) (s .args .places) wide zero (s .args .x) row .0)
 
 add-without-plan : tie.Need-add-without-plan
 add-without-plan c = let v = c in
-    let z = v .before .before .before in
+    let r = v .before .before in
+    let z = r .before .before in
     let s = z .before .before in
     let wide : length (s .args .sites) ≡ 512 = search needs in
     let zero = subst (Zero (s .args .store) (s .args .sites) (s .args .places)) (z .if1 .left) (z .before .row-zero .ensures) in
-    let row = subst (AddRow (s .args .store) (s .args .sites) (s .args .places) (s .args .x)) (v .enum-told .given .1) (v .before .before .add-row .ensures) in
+    let row = subst (AddRow (s .args .store) (s .args .sites) (s .args .places) (s .args .x)) (v .enum-told .given .1) (r .add-row .ensures) in
     omega (arith, add-room (s .args .store) (s .args .sites) (s .args .places) wide zero (s .args .x) row .0)
 
 without-plan-requires : tie.Need-without-plan-requires
@@ -74,11 +78,12 @@ without-plan-requires c κs = search needs
 returns-3 : tie.Need-returns-3
 returns-3 c = λ e input buffer.
     let v = c .before in
-    let z = v .before .before .before in
+    let r = v .before .before in
+    let z = r .before .before in
     let s = z .before .before in
     let wide : length (s .args .sites) ≡ 512 = search needs in
     let zero = subst (Zero (s .args .store) (s .args .sites) (s .args .places)) (z .if1 .left) (z .before .row-zero .ensures) in
-    let row = subst (AddRow (s .args .store) (s .args .sites) (s .args .places) (s .args .x)) (v .enum-told .given .1) (v .before .before .add-row .ensures) in
+    let row = subst (AddRow (s .args .store) (s .args .sites) (s .args .places) (s .args .x)) (v .enum-told .given .1) (r .add-row .ensures) in
     add-made (s .args .store) (s .args .sites) (s .args .places) e input buffer _ wide zero (s .args .x) row (c .without-plan .ensures)
 
 pub add-spec : {M : Type 1} → statement M

@@ -24,7 +24,8 @@ returns : tie.Need-returns
 returns c = λ input.
     let a = c .before .before in
     let b = a .before .before .before in
-    let k = b .before .before .before in
+    let rolled = b .before .before .before in
+    let k = rolled .before in
     let s = k .before .before in
     let known = k .summary .ensures in
     asked (s .args .store) (s .args .sites) (s .args .places) (s .args .e) input (s .args .buffer .now) _ (s .args .request) (a .answer .result) _ (s .pre .1)

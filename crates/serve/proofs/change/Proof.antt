@@ -82,7 +82,7 @@ without-plan-requires c κs = search needs
 
 returns-3 : tie.Need-returns-3
 returns-3 c = λ e input buffer.
-    let v = c .before .before in
+    let v = c .before .before .before in
     let z = v .before .before .before in
     let s = z .before .before in
     let wide : length (s .args .t2) ≡ 512 = search needs in

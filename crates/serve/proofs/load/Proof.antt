@@ -1,8 +1,6 @@
 -- `serve::load` meets its contract. Assumes nothing.
 use mathlib.Core.Path.{sym, ap, ap₂, _∙_}
-use mathlib.Core.List.{List}
 use Prim.Native.Nat.{ℕ}
-use Rattle.density.specs.declared.Site.{Site}
 use Rattle.records.specs.declared.ListArray.{ListArray}
 use Rattle.records.specs.declared.ListRead.{ListRead}
 use Rattle.records.specs.Format.{readList}
@@ -31,16 +29,16 @@ refuse-requires c κs = search needs
 
 returns : tie.Need-returns
 returns c = λ buffer.
-    let v = c .before .before .before in
-    let a = v .before in
+    let listed = c .before .before .before in
+    let a = listed .before .before in
     let x = a .before .before in
     let s = x .before .before in
     let o = readList (s .args .e) (s .args .places) (s .args .input .now) in
     let l = list-counted o (sym (a .answer .given .1) ∙ ap (λ (x : ListRead). x .answer) (x .read .ensures)) in
     load-read (s .args .store) (s .args .sites) (s .args .places) (s .args .e) (s .args .input .now) buffer _ (l .0) (l .1)
     (c .without-plan .ensures
-    ∙ ap₂ (λ (n : ℕ) (xs : List Site). record { answer = of.Done; store = bare n; sites = xs; n = n }) (sym (l .2))
-    (ap (λ (x : ListRead). x .list .sites) (x .read .ensures) ∙ ap (λ (y : ListArray). y .sites) (l .3)))
+    ∙ ap₂ (λ (n : ℕ) (y : ListArray). record { answer = of.Done; store = bare n (y .roll); sites = y .sites; n = n }) (sym (l .2))
+    (ap (λ (x : ListRead). x .list) (x .read .ensures) ∙ l .3))
 
 returns-2 : tie.Need-returns-2
 returns-2 c = λ buffer.

@@ -12,6 +12,10 @@ use borrow.Author.Needs.{needs}
 use Rattle.serve.proofs.propose.Statement.{statement}
 use Rattle.serve.proofs.propose.Tie as tie
 
+-- there are 512 sites
+sized : (s : tie.Start) → length (s .args .sites) ≡ 512
+sized s = search needs
+
 row-zero-requires : tie.Need-row-zero-requires
 row-zero-requires c κs = search needs
 
@@ -25,9 +29,9 @@ returns c = λ buffer.
     zero-served (s .args .store) (s .args .sites) (s .args .places) (s .args .e) (s .args .input .now) buffer _ _ refl (subst (Zero (s .args .store) (s .args .sites) (s .args .places)) (z .if1 .taken) (z .before .row-zero .ensures)) (c .refuse .ensures)
 
 plan-for-requires : tie.Need-plan-for-requires
-plan-for-requires c κs = let z = c in
+plan-for-requires c κs = let z = c .before in
     let s = z .before .before .before in
-    let wide : length (s .args .sites) ≡ 512 = search needs in
+    let wide = sized s in
     let zero = subst (Zero (s .args .store) (s .args .sites) (s .args .places)) (z .if1 .left) (z .before .row-zero .ensures) in
     (s .pre, few (s .args .store) (s .args .sites) (s .args .places) wide zero, in-range (s .args .store) (s .args .sites) (s .args .places) wide zero)
 
@@ -40,13 +44,14 @@ refuse-requires-2 c κs = search needs
 returns-2 : tie.Need-returns-2
 returns-2 c = λ buffer.
     let v = c .before .before in
-    let z = v .before .before .before in
+    let r = v .before .before in
+    let z = r .before .before in
     let s = z .before .before .before in
-    let wide : length (s .args .sites) ≡ 512 = search needs in
+    let wide = sized s in
     let zero = subst (Zero (s .args .store) (s .args .sites) (s .args .places)) (z .if1 .left) (z .before .row-zero .ensures) in
     let o = judgedFor (s .args .e) (listing (list (s .args .store) (s .args .sites) (s .args .places))) (s .args .input .now) in
     propose-refused (s .args .store) (s .args .sites) (s .args .places) (s .args .e) (s .args .input .now) buffer _ wide zero _
-    (plan-refused o (sym (v .answer .given .1) ∙ ap (λ (x : PlanRead). x .answer) (v .before .before .plan-for .ensures))) (c .refuse2 .ensures)
+    (plan-refused o (sym (v .answer .given .1) ∙ ap (λ (x : PlanRead). x .answer) (r .plan-for .ensures))) (c .refuse2 .ensures)
 
 enum-told : tie.Need-enum-told
 enum-told c = search needs
@@ -57,12 +62,13 @@ with-plan-requires c κs = search needs
 returns-3 : tie.Need-returns-3
 returns-3 c = λ buffer.
     let v = c .before .before in
-    let z = v .before .before .before in
+    let r = v .before .before in
+    let z = r .before .before in
     let s = z .before .before .before in
-    let wide : length (s .args .sites) ≡ 512 = search needs in
+    let wide = sized s in
     let zero = subst (Zero (s .args .store) (s .args .sites) (s .args .places)) (z .if1 .left) (z .before .row-zero .ensures) in
     let o = judgedFor (s .args .e) (listing (list (s .args .store) (s .args .sites) (s .args .places))) (s .args .input .now) in
-    let read = v .before .before .plan-for .ensures in
+    let read = r .plan-for .ensures in
     let l = plan-counted o (sym (v .enum-told .given .1) ∙ ap (λ (x : PlanRead). x .answer) read) in
     propose-passed (s .args .store) (s .args .sites) (s .args .places) (s .args .e) (s .args .input .now) buffer _ wide zero (l .0) (l .1)
     (c .with-plan .ensures ∙ ap (λ (x : PlanArray). takes (s .args .store) x (s .args .sites)) (ap (λ (x : PlanRead). x .plan) read ∙ l .3))

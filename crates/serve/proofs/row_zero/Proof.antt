@@ -19,8 +19,9 @@ is-corrupt-requires c κs = search needs
 returns : tie.Need-returns
 returns c = λ e table k h.
     let z = c .before .before .before in
-    let s = z .before .before .before in
-    let known = z .before .before .summary .ensures in
+    let summed = z .before .before .before in
+    let s = summed .before in
+    let known = summed .summary .ensures in
     c .is-corrupt .ensures _ (stands (s .args .store) (s .args .sites) (s .args .places) _ (known .0) (known .1) (known .2) e table k h)
 
 pub row-zero-spec : {M : Type 1} → statement M

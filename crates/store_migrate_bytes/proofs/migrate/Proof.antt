@@ -1,19 +1,28 @@
 -- `store_migrate_bytes::migrate` meets its contract. Assumes nothing.
 use mathlib.Core.Path.{_≡_, refl, sym, subst, _∙_}
 use mathlib.Core.Bool.{true}
+use mathlib.Core.Option.{none}
+use mathlib.Core.List.{List}
+use Prim.Native.Nat.{ℕ, _≤_, _<_, _^_}
+use native.Mathlib.Omega.{arith}
 use borrow.Author.Needs.{needs}
 use denote.Ref.{now}
 use lib.Dec.{lit≤}
-use lib.ListN.{length, replicate}
+use lib.ListN.{length, getD, replicate}
 use Rattle.records.specs.declared.Edition.{Edition}
 use Rattle.records.specs.Format.{edition1, edition2}
+use Rattle.records.specs.Values.{rollArray}
+use Rattle.held_state.specs.declared.Store.{Store}
 use Rattle.held_state.specs.Held.{State}
 use Rattle.held_state.specs.Values.{Stands}
+use Rattle.store.specs.State.{bare}
 use Rattle.store.specs.Widths.{Fitting}
-use Rattle.layout.specs.Layout.{storeSize, StoreRead}
+use Rattle.layout.specs.Layout.{frontSize, storeSize, StoreFits, StoreRead}
+use Rattle.layout_put.specs.Put.{PutStore, PutFront}
+use Rattle.layout_put.proofs.Places.{length-zeros, bare-fits}
 use Rattle.lent.specs.Lent.{stateIn, isOf}
 use Rattle.lent.proofs.Served.{sized-is, places-fit, Listed, stands}
-use Rattle.store_migrate_bytes.proofs.Migrated.{Old, migrate-corrupt, migrate-refuses, migrate-few, migrate-room, migrate-bare, migrate-plan}
+use Rattle.store_migrate_bytes.proofs.Migrated.{Old, migrate-corrupt, migrate-refuses, migrate-few, migrate-room, written, new-put, migrate-bare, migrate-plan}
 use Rattle.store_migrate_bytes.proofs.migrate.Statement.{statement}
 use Rattle.store_migrate_bytes.proofs.migrate.Tie as tie
 
@@ -43,10 +52,12 @@ abbrev first : tie.After-store-in → tie.After-edition1
 first c = c .before .before .before
 
 list-in-requires : tie.Need-list-in-requires
-list-in-requires c κs = fitting (first (c .before .before)) .0
+list-in-requires c κs = fitting (first (c .before .before .before)) .0
 
 summary-requires : tie.Need-summary-requires
-summary-requires c κs = fitting (first (c .before .before .before)) .0
+summary-requires c κs =
+    let r = c .before .before .before .before in
+    fitting (first r) .0
 
 slice-aggregate-is-corrupt : tie.Need-slice-aggregate-is-corrupt
 slice-aggregate-is-corrupt c = search needs
@@ -58,10 +69,10 @@ is-corrupt-requires : tie.Need-is-corrupt-requires
 is-corrupt-requires c κs =
     let k = c .before .before in
     let l = k .before .list-in in
-    (search needs, search needs, k .summary .ensures .3 (l .result) (l .ensures .0) (l .ensures .1))
+    (search needs, search needs, k .summary .ensures .3 (l .result) (l .ensures .0) (l .ensures .2))
 
 abbrev read : tie.After-summary → tie.After-store-in
-read c = let l = c .before in l .before .before .before
+read c = let l = c .before .before in l .before .before .before
 
 abbrev given : tie.After-summary → tie.Start
 given c = start (first (read c))
@@ -75,14 +86,14 @@ state c = let a = given c .args in stateIn edition1 (now (a .store)) (now (a .ta
 -- what is read stands for the state
 standing : (c : tie.After-summary)
     → let p = read c .store-in in
-    Stands (state c) (c .before .list-in .result) (c .summary .result) (p .last .1 .1 .0) (p .last .1 .1 .1 .0)
+    Stands (state c) (c .before .list-in .result) (c .summary .result) (p .last .1 .1 .1 .0) (p .last .1 .1 .1 .1 .0)
 standing c =
     let r = read c in
     let a = given c .args in
     let p = r .store-in in
     let f = first r .edition1 in
     let k = c .summary .ensures in
-    subst (λ (e : Edition). Stands (stateIn e (now (a .store)) (now (a .table))) (c .before .list-in .result) (c .summary .result) (p .last .1 .1 .0) (p .last .1 .1 .1 .0))
+    subst (λ (e : Edition). Stands (stateIn e (now (a .store)) (now (a .table))) (c .before .list-in .result) (c .summary .result) (p .last .1 .1 .1 .0) (p .last .1 .1 .1 .1 .0))
     (f .ensures) (stands (f .result) (now (a .store)) (now (a .table)) (p .ensures) (c .before .list-in .ensures) (k .0) (k .1) (k .2))
 
 returns : tie.Need-returns
@@ -105,7 +116,7 @@ old : (c : tie.After-migrate-row)
     → let k = ruled c in
     let a = given k .args in
     let p = read k .store-in in
-    Old (now (a .store)) (now (a .table)) (now (a .table2)) (p .result) (p .last .1 .1 .0) (p .last .1 .1 .1 .0) (k .before .list-in .result) (c .migrate-row .result)
+    Old (now (a .store)) (now (a .table)) (now (a .table2)) (p .result) (p .last .1 .1 .1 .0) (p .last .1 .1 .1 .1 .0) (k .before .list-in .result) (c .migrate-row .result)
 old c =
     let k = ruled c in
     let a = given k .args in
@@ -115,9 +126,9 @@ old c =
     let l = k .before .list-in in
     record {
       read =
-          subst (λ (e : Edition). StoreRead (e .share) (now (a .store)) (replicate 64 0) (replicate 512 0) (p .result) (p .last .1 .1 .0) (p .last .1 .1 .1 .0)) (f .ensures)
+          subst (λ (e : Edition). StoreRead (e .share) (e .roll) (now (a .store)) (replicate 64 0) (replicate 512 0) (p .result) (p .last .1 .1 .1 .0) (p .last .1 .1 .1 .1 .0)) (f .ensures)
           (p .ensures);
-      listed = subst (λ (e : Edition). Listed e (now (a .table)) (p .result .count) (l .result)) (f .ensures) (l .ensures);
+      listed = subst (λ (e : Edition). Listed e (now (a .table)) (p .result .count) (p .result .roll) (l .result)) (f .ensures) (l .ensures);
       sound = sym (c .before .before .is-corrupt .ensures (state k) (standing k)) ∙ c .before .if1 .left;
       row = c .migrate-row .ensures;
     }
@@ -147,8 +158,40 @@ put-sites-requires c κs =
 abbrev told : tie.After-put-sites → tie.After-enum-told
 told c = c .before .before .before
 
-sized : (c : tie.After-put-sites) → let s = given (ruled (passed (told c))) in length (now (s .args .store2)) ≡ storeSize (edition2 .share)
+sized : (c : tie.After-put-sites) → let s = given (ruled (passed (told c))) in length (now (s .args .store2)) ≡ storeSize (edition2 .share) (edition2 .roll)
 sized c = let s = given (ruled (passed (told c))) in sized-is edition2 (now (s .args .store2)) (s .pre .1)
+
+no-roll-requires : tie.Need-no-roll-requires
+no-roll-requires c κs = search needs
+
+put-roll-requires : tie.Need-put-roll-requires
+put-roll-requires c κs =
+    let n = c .before in
+    sized (n .before .before .before)
+
+-- where the roll is written: where the sites are, and there is room for a front
+abbrev rolled : tie.After-slice-known4 → tie.After-put-roll
+rolled c = c .before .before
+
+abbrev sited : tie.After-put-roll → tie.After-put-sites
+sited c = let n = c .before .before in n .before .before .before
+
+abbrev new-bytes : tie.After-put-roll → List ℕ
+new-bytes c = now (given (ruled (passed (told (sited c)))) .args .store2)
+
+as-long : (c : tie.After-put-roll) → length (c .put-roll .last .0) ≡ length (new-bytes c)
+as-long c = c .put-roll .kept .0
+
+room : (c : tie.After-put-roll) → frontSize (edition2 .share) ≤ length (c .put-roll .last .0)
+room c = omega (arith, as-long c, sized (sited c))
+
+-- a store without a roll whose front is written then
+new-store : (c : tie.After-put-roll) (store : Store) {last : List ℕ} → length (store .groups) ≡ 64 → length (store .shares) ≡ 512
+    → (((i : ℕ) → getD (store .shares) i 0 < 256 ^ edition2 .share) → StoreFits (edition2 .share) store) → store .roll ≡ rollArray none
+    → PutFront (edition2 .share) store (c .put-roll .last .0) last → PutStore (edition2 .share) (edition2 .roll) store last
+new-store c store many each fit unrolled =
+    let s = given (ruled (passed (told (sited c)))) in
+    new-put (new-bytes c) store many each fit (s .pre .1) unrolled (c .before .before .no-roll .ensures) (c .put-roll .ensures) (as-long c)
 
 slice-aggregate-put-plan : tie.Need-slice-aggregate-put-plan
 slice-aggregate-put-plan c = search needs
@@ -159,14 +202,14 @@ slice-aggregate-put-plan-2 c = search needs
 put-plan-requires : tie.Need-put-plan-requires
 put-plan-requires c κs =
     let g = c .before .before .before in
-    let p = g .before .before .before in
-    let k = read (ruled (passed (told p))) .store-in .kept in
-    (sized p, k .1 .1 .0, k .1 .1 .1 .0)
+    let o = rolled (g .before) in
+    let k = read (ruled (passed (told (sited o)))) .store-in .kept in
+    (room o, k .1 .1 .1 .0, k .1 .1 .1 .1 .0)
 
 put-bare-requires : tie.Need-put-bare-requires
 put-bare-requires c κs =
     let g = c .before in
-    sized (g .before .before .before)
+    room (rolled (g .before))
 
 same-length : tie.Need-same-length
 same-length c = search needs
@@ -182,15 +225,20 @@ returns-3 : tie.Need-returns-3
 returns-3 c =
     let w = c .before .before in
     let g = held w in
-    let p = g .before .before .before in
+    let o = rolled (g .before) in
+    let p = sited o in
     let t = told p in
     let v = passed t in
+    let r = read (ruled v) .store-in in
     let k = first (read (ruled v)) in
     let b = k .before .before .before in
     let a = start k .args in
+    let store = written (now (a .store)) (now (a .table)) (now (a .store2)) (now (a .table2)) (old v) (t .enum-told .given .1) (g .if2 .taken) in
+    let wrote = w .put-plan .ensures in
+    let put = new-store o store (r .kept .1 .1 .1 .0) (r .kept .1 .1 .1 .1 .0) (wrote .1 (rollArray none)) refl (wrote .0 (rollArray none)) in
     migrate-plan (now (a .store)) (now (a .table)) (now (a .store2)) (now (a .table2)) (old v) (t .enum-told .given .1) (g .if2 .taken)
-    (λ i. b .before .shared-slice-known .given i .fits) (λ i. b .shared-slice-known2 .given i .fits) (λ i. k .before .slice-known2 .given i .fits) (w .put-plan .ensures)
-    (w .put-plan .kept .0) (p .put-sites .ensures)
+    (λ i. b .before .shared-slice-known .given i .fits) (λ i. b .shared-slice-known2 .given i .fits) (λ i. k .before .slice-known2 .given i .fits) put
+    (w .put-plan .kept .0 ∙ as-long o) (p .put-sites .ensures)
 
 same-length-3 : tie.Need-same-length-3
 same-length-3 c = search needs
@@ -202,14 +250,18 @@ returns-4 : tie.Need-returns-4
 returns-4 c =
     let w = c .before .before in
     let g = w .before .before in
-    let p = g .before .before .before in
+    let o = rolled (g .before) in
+    let p = sited o in
     let t = told p in
     let v = passed t in
+    let n = read (ruled v) .store-in .result .count in
     let k = first (read (ruled v)) in
     let b = k .before .before .before in
     let a = start k .args in
+    let few : n < 256 ^ 8 = omega (arith, migrate-few (now (a .store)) (now (a .table)) (now (a .store2)) (now (a .table2)) (old v)) in
+    let put = new-store o (bare n (rollArray none)) (length-zeros 64) (length-zeros 512) (bare-fits (edition2 .share) n (rollArray none) few) refl (w .put-bare .ensures (rollArray none)) in
     migrate-bare (now (a .store)) (now (a .table)) (now (a .store2)) (now (a .table2)) (old v) (t .enum-told .given .1) (g .if2 .left)
-    (λ i. b .shared-slice-known2 .given i .fits) (λ i. k .before .slice-known2 .given i .fits) (w .put-bare .ensures) (w .put-bare .kept .0) (p .put-sites .ensures)
+    (λ i. b .shared-slice-known2 .given i .fits) (λ i. k .before .slice-known2 .given i .fits) put (w .put-bare .kept .0 ∙ as-long o) (p .put-sites .ensures)
 
 pub migrate-spec : {M : Type 1} → statement M
 migrate-spec =
@@ -230,6 +282,8 @@ migrate-spec =
     returns-2
     enum-told
     put-sites-requires
+    no-roll-requires
+    put-roll-requires
     slice-aggregate-put-plan
     slice-aggregate-put-plan-2
     put-plan-requires

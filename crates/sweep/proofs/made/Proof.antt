@@ -1,7 +1,7 @@
 -- `sweep::made` is safe and ends.
 use mathlib.Core.Path.{sym}
 use lib.Seq.{length-take-le}
-use lib.Dec.{lit≤}
+use native.Mathlib.Omega.{arith}
 use borrow.Author.Needs.{needs}
 use Rattle.sweep.proofs.made.Statement.{statement}
 use Rattle.sweep.proofs.made.Tie as tie
@@ -24,8 +24,8 @@ length-requires c κs = search needs
 returns-2 : tie.Need-returns-2
 returns-2 c = search needs
 
-edition1-requires : tie.Need-edition1-requires
-edition1-requires c κs = search needs
+edition-requires : tie.Need-edition-requires
+edition-requires c κs = search needs
 
 array-share-prefix-out : tie.Need-array-share-prefix-out
 array-share-prefix-out c = search needs
@@ -34,7 +34,7 @@ slice-aggregate-read : tie.Need-slice-aggregate-read
 slice-aggregate-read c = sym (length-take-le _ _ (search needs))
 
 read-requires : tie.Need-read-requires
-read-requires c κs = (rw (c .before .edition1 .ensures) (lit≤ tt), search needs)
+read-requires c κs = (omega (arith, c .before .edition .ensures), search needs)
 
 returns-3 : tie.Need-returns-3
 returns-3 c = search needs
@@ -49,7 +49,7 @@ made-spec =
     make-requires
     length-requires
     returns-2
-    edition1-requires
+    edition-requires
     array-share-prefix-out
     slice-aggregate-read
     read-requires

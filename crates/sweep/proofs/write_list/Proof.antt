@@ -1,5 +1,5 @@
 -- `sweep::write_list` is safe and ends.
-use lib.Dec.{lit≤}
+use native.Mathlib.Omega.{arith}
 use borrow.Author.Needs.{needs}
 use Rattle.sweep.proofs.write_list.Statement.{statement}
 use Rattle.sweep.proofs.write_list.Tie as tie
@@ -7,11 +7,11 @@ use Rattle.sweep.proofs.write_list.Tie as tie
 returns : tie.Need-returns
 returns c = search needs
 
-edition1-requires : tie.Need-edition1-requires
-edition1-requires c κs = search needs
+edition-requires : tie.Need-edition-requires
+edition-requires c κs = search needs
 
 list-requires : tie.Need-list-requires
-list-requires c κs = (rw (c .before .edition1 .ensures) (lit≤ tt), search needs)
+list-requires c κs = (omega (arith, c .before .edition .ensures), search needs)
 
 length-requires : tie.Need-length-requires
 length-requires c κs = search needs
@@ -25,4 +25,4 @@ returns-2 c = search needs
 pub write-list-spec : {M : Type 1} → statement M
 write-list-spec =
     tie.close
-    (tie.spec returns edition1-requires list-requires length-requires same-length returns-2)
+    (tie.spec returns edition-requires list-requires length-requires same-length returns-2)

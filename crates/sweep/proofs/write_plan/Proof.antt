@@ -1,5 +1,5 @@
 -- `sweep::write_plan` is safe and ends.
-use lib.Dec.{lit≤}
+use native.Mathlib.Omega.{arith}
 use borrow.Author.Needs.{needs}
 use Rattle.sweep.proofs.write_plan.Statement.{statement}
 use Rattle.sweep.proofs.write_plan.Tie as tie
@@ -10,11 +10,11 @@ returns c = search needs
 returns-2 : tie.Need-returns-2
 returns-2 c = search needs
 
-edition1-requires : tie.Need-edition1-requires
-edition1-requires c κs = search needs
+edition-requires : tie.Need-edition-requires
+edition-requires c κs = search needs
 
 plan-requires : tie.Need-plan-requires
-plan-requires c κs = (rw (c .before .edition1 .ensures) (lit≤ tt), search needs, search needs)
+plan-requires c κs = (omega (arith, c .before .edition .ensures), search needs, search needs)
 
 length-requires : tie.Need-length-requires
 length-requires c κs = search needs
@@ -31,7 +31,7 @@ write-plan-spec =
     (tie.spec
     returns
     returns-2
-    edition1-requires
+    edition-requires
     plan-requires
     length-requires
     same-length

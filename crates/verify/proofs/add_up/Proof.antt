@@ -16,8 +16,8 @@ use Rattle.verify.proofs.add_up.Statement.{statement}
 use Rattle.verify.proofs.add_up.Tie as tie
 use Rattle.verify.proofs.add_up.Code as code
 
--- The arrays of its code, by `refl`: another one is refused. W returned; the list's sites; in memory the sites, and W of each group; W as it is put into what is returned.
-arrays-are : arrays (code.function) ≡ value 64 8 ∷ value 512 8 ∷ memory 512 8 ∷ memory 64 8 ∷ value 64 8 ∷ []
+-- The arrays of its code, by `refl`: another one is refused. W returned; the list's sites and roll; in memory the sites and the roll, and W of each group; W as it is put into what is returned.
+arrays-are : arrays (code.function) ≡ value 64 8 ∷ value 512 8 ∷ value 64 1 ∷ memory 512 8 ∷ memory 64 1 ∷ memory 64 8 ∷ value 64 8 ∷ []
 arrays-are = refl
 
 abbrev Inv-loop : tie.InvT-loop
@@ -161,7 +161,7 @@ mul-all-2 c =
     let k = c .before .before .before .later in
     let w = c .before .litres-of in
     let g = c .before .before .if1 .left in
-    omega (arith, table-fits _ _ _ _ (s .pre .1) (k .result) (w .result) g (w .ensures .1))
+    omega (arith, table-fits _ _ (s .pre .0 .range) _ _ (s .pre .1) (k .result) (w .result) g (w .ensures .1))
 
 is-broken-requires : tie.Need-is-broken-requires Inv-loop μ-loop Inv-loop2 μ-loop2
 is-broken-requires c κs = search needs

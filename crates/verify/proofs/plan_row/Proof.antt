@@ -6,10 +6,13 @@ use native.Mathlib.Omega.{arith}
 use lib.ListN.{length, take, getD-replicate}
 use borrow.Author.Needs.{needs}
 use Rattle.density.specs.Rows.{firstRow, planRows, loadsUneven, groupsRise}
+use Rattle.density.proofs.Lists.{range-roll}
+use Rattle.records.specs.Values.{listing}
 use Rattle.tables.specs.declared.Verdict.the-variants.{Passes}
 use Rattle.tables.specs.Verdict.{verdict}
 use Rattle.tables.specs.Tables.{net, groupsIn, sharesIn}
 use Rattle.tables.proofs.Locals.{value, memory, arrays}
+use Rattle.tables.proofs.Groups.{crews-few}
 use Rattle.tables.proofs.Verdicts.{form-refused, row-15, row-16, plan-passes, small, kept-parts, kept-levels}
 use Rattle.tables.proofs.Shares.{groups-count}
 use Rattle.tables.proofs.Totals.{listed-place}
@@ -17,29 +20,41 @@ use Rattle.verify.proofs.plan_row.Statement.{statement}
 use Rattle.verify.proofs.plan_row.Tie as tie
 use Rattle.verify.proofs.plan_row.Code as code
 
--- The arrays of its code, by `refl`: another one is refused. The list's sites; the plan's groups and shares; in memory the groups, the shares and w × q of each site; from `try_form` places, q and W; in memory each depot's place, q and W of
--- each group, and the loads, which row 15 reads there; the loads from `loads`, and the zeros that it adds to.
-arrays-are : arrays (code.function) ≡ value 512 8 ∷ value 64 8 ∷ value 512 8 ∷ memory 64 8 ∷ memory 512 8 ∷ memory 512 8 ∷ value 64 1 ∷ value 64 8 ∷ value 64 8 ∷ memory 64 1 ∷ memory 64 8 ∷ memory 64 8 ∷ memory 64 8 ∷ value 64 8 ∷ value 64 8 ∷ []
+-- The arrays of its code, by `refl`: another one is refused. The list's sites and roll; the plan's groups and shares; in memory the groups, the shares and w × q of each site; from `try_form` places, q and W; in memory each depot's place, q and W of
+-- each group, and the loads, which row 15 reads there; the roll, taken out of the list; in memory each depot's crews; the loads from `loads`, and then the crews from `tables`; the zeros that `loads` adds to.
+arrays-are : arrays (code.function) ≡ value 512 8 ∷ value 64 1 ∷ value 64 8 ∷ value 512 8 ∷ memory 64 8 ∷ memory 512 8 ∷ memory 512 8 ∷ value 64 1 ∷ value 64 8 ∷ value 64 8 ∷ memory 64 1 ∷ memory 64 8 ∷ memory 64 8 ∷ memory 64 8 ∷ value 64 1 ∷ memory 64 8 ∷ value 64 8 ∷ value 64 8 ∷ []
 arrays-are = refl
 
 many : (s : tie.Start) → length (s .args .plan .shares) ≡ 512
 many s = search needs
 
--- places on the way: the beginning, where rows 12 to 14 were tried, and where they had passed before row 15 and before row 16 was asked
+-- places on the way: the beginning, where rows 12 to 14 were tried, where the loads and then the crews were known, and where rows 12 to 14 had passed before row 15 and before row 16 was asked
 abbrev start : tie.After-try-form → tie.Start
 start t = t .before .before .before .before .before .before
 
 abbrev tried : tie.After-enum-told → tie.After-try-form
 tried t = t .before .before .before
 
-abbrev summed : tie.After-loads-uneven → tie.After-loads
-summed p = p .before .before .before .before
+abbrev summed : tie.After-crews → tie.After-loads
+summed m = m .before .before
+
+abbrev clear : tie.After-crews → tie.After-enum-told
+clear m = summed m .before .before .before .before .before .before
+
+abbrev counted : tie.After-loads-uneven → tie.After-crews
+counted p = p .before .before .before .before .before
 
 abbrev passed : tie.After-loads-uneven → tie.After-enum-told
-passed p = summed p .before .before .before .before .before .before
+passed p = clear (counted p)
 
 abbrev levelled : tie.After-groups-rise → tie.After-loads-uneven
 levelled p = p .before .before .before .before
+
+loads-wide : (w : tie.After-loads) → length (w .loads .result) ≡ 64
+loads-wide w = search needs
+
+crews-wide : (m : tie.After-crews) → length (m .crews .result) ≡ 64
+crews-wide m = search needs
 
 -- rows 12 to 14 do not refuse the plan
 form : (t : tie.After-enum-told) → let s = start (tried t) in verdict (firstRow (take 3 (planRows (net (s .args .list)) (groupsIn (s .args .list) (s .args .plan)) (sharesIn (s .args .list) (s .args .plan))))) ≡ Passes
@@ -51,8 +66,9 @@ uneven p =
     let t = passed p in
     let f = tried t .try-form in
     let s = start (tried t) in
-    let w = summed p .loads in
-    p .loads-uneven .ensures (s .args .list) (s .args .plan) (kept-levels {plan = s .args .plan} (f .ensures .passed (t .enum-told .given .1)) (many s) (w .result) (w .ensures))
+    let m = counted p .crews in
+    let w = summed (counted p) .loads in
+    p .loads-uneven .ensures (s .args .list) (s .args .plan) (kept-levels {plan = s .args .plan} (f .ensures .passed (t .enum-told .given .1)) (many s) (m .result) (m .ensures) (w .result) (w .ensures))
 
 -- row 16 is asked
 rises : (p : tie.After-groups-rise) → let s = start (tried (passed (levelled p))) in p .groups-rise .result ≡ groupsRise (net (s .args .list)) (groupsIn (s .args .list) (s .args .plan))
@@ -107,6 +123,9 @@ loads-requires c κs =
     let k = f .ensures .passed told in
     (λ d l. omega (arith, getD-replicate {A = ℕ} 64 d 0 0 l), kept-parts {plan = s .args .plan} k (many s))
 
+crews-requires : tie.Need-crews-requires
+crews-requires c κs = search needs
+
 slice-aggregate-loads-uneven : tie.Need-slice-aggregate-loads-uneven
 slice-aggregate-loads-uneven c = search needs
 
@@ -116,17 +135,23 @@ slice-aggregate-loads-uneven-2 c = search needs
 slice-aggregate-loads-uneven-3 : tie.Need-slice-aggregate-loads-uneven-3
 slice-aggregate-loads-uneven-3 c = search needs
 
+slice-aggregate-loads-uneven-4 : tie.Need-slice-aggregate-loads-uneven-4
+slice-aggregate-loads-uneven-4 c = search needs
+
 loads-uneven-requires : tie.Need-loads-uneven-requires
 loads-uneven-requires c κs =
-    let w = c .before .before .before in
-    let q = w .before .before .before in
-    let t = q .before .before .before in
+    let w2 = c .before .before in
+    let m = w2 .before .before in
+    let t = clear m in
     let s = start (tried t) in
     let f = tried t .try-form in
-    let told = t .enum-told .given .1 in
-    let k = f .ensures .passed told in
-    let sums : length (w .loads .result) ≡ 64 = search needs in
-    ((k .tables .length-places, k .litres .0, sums), λ d l h. listed-place (s .args .list) (s .args .plan) (k .ready) (f .result .places) (k .tables .place) (f .result .listed) d (k .listed) l h)
+    let k = f .ensures .passed (t .enum-told .given .1) in (
+      (k .tables .length-places, k .litres .0, crews-wide m, loads-wide (summed m)),
+      (
+        λ d l h. listed-place (s .args .list) (s .args .plan) (k .ready) (f .result .places) (k .tables .place) (f .result .listed) d (k .listed) l h,
+        (k .litres .1 .low, crews-few (s .args .list .roll) (m .crews .result) (m .crews .ensures) (range-roll (listing (s .args .list)) (s .pre .range))),
+      ),
+    )
 
 returns-2 : tie.Need-returns-2
 returns-2 c =
@@ -185,9 +210,11 @@ plan-row-spec =
     slice-aggregate-loads
     slice-aggregate-loads-2
     loads-requires
+    crews-requires
     slice-aggregate-loads-uneven
     slice-aggregate-loads-uneven-2
     slice-aggregate-loads-uneven-3
+    slice-aggregate-loads-uneven-4
     loads-uneven-requires
     returns-2
     slice-aggregate-groups-rise

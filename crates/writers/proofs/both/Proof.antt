@@ -1,11 +1,11 @@
 -- `writers::both` meets its contract. Assumes nothing.
 use Prim.Native.Nat.{ℕ, _≤_, _+_, _*_}
-use mathlib.Core.Path.{_≡_, _∙_, ap, ap₂}
+use mathlib.Core.Path.{_≡_, _∙_, ap₂, sym}
 use native.Mathlib.Nat.{mul-le-mul-right}
 use native.Mathlib.Omega.{arith}
 use lib.ListN.{length, length-map}
 use lib.Seq.{length-take-le}
-use Rattle.records.specs.Format.{siteSize, shareSize}
+use Rattle.records.specs.Format.{listSize, shareSize}
 use Rattle.records.specs.Values.{listing, planIn}
 use Rattle.records.specs.Write.{listBytes, planBytes}
 use Rattle.records.specs.Files.{Files, files}
@@ -19,11 +19,26 @@ use Rattle.writers.proofs.both.Tie as tie
 abbrev given : tie.Start → Files
 given s = files (s .args .e) (listing (s .args .l)) (planIn (s .args .p) (s .args .l .count))
 
+-- the places on the way: where the list's length is added up, and where both lengths are known
+abbrev start : tie.After-struct-known → tie.Start
+start c = c .before .before .before .before
+
+abbrev start1 : tie.After-roll-size → tie.Start
+start1 c = start (c .before)
+
+abbrev rolled : tie.After-struct-known3 → tie.After-roll-size
+rolled c = c .before .before
+
+abbrev start2 : tie.After-struct-known3 → tie.Start
+start2 c = start1 (rolled c)
+
 -- the lengths of it
-list-length : (s : tie.Start) → length (listBytes (s .args .e) (listing (s .args .l))) ≡ 4 + (4 + s .args .e .litres) * s .args .l .count
-list-length s =
+list-length : (c : tie.After-roll-size) → length (listBytes (start1 c .args .e) (listing (start1 c .args .l))) ≡ 4 + (4 + start1 c .args .e .litres) * start1 c .args .l .count + c .roll-size .result
+list-length c =
+    let s = start1 c in
     let wide : length (s .args .l .sites) ≡ 512 = simp length-map at (s .good .1 .0 .1 .1 .1 .0 .1 .0 .1) in
-    length-list (s .args .e) (listing (s .args .l)) ∙ ap (λ (k : ℕ). 4 + siteSize (s .args .e) * k) (length-take-le (s .args .l .count) (s .args .l .sites) (omega (arith, s .pre .2)))
+    let sites = length-take-le (s .args .l .count) (s .args .l .sites) (omega (arith, s .pre .2)) in
+    length-list (s .args .e) (listing (s .args .l)) ∙ ap₂ (λ (k m : ℕ). listSize (s .args .e) k + m) sites (sym (c .roll-size .ensures .0 (s .args .e)))
 
 plan-length : (s : tie.Start) → length (planBytes (s .args .e) (planIn (s .args .p) (s .args .l .count))) ≡ 5 + 10 * s .args .p .count + (2 + s .args .e .share) * s .args .l .count
 plan-length s =
@@ -43,10 +58,16 @@ add-first : tie.Need-add-first
 add-first c = search needs
 
 mul-first : tie.Need-mul-first
-mul-first c = let s = c .before .before .before in omega (arith, small s, s .pre .2)
+mul-first c = let s = start c in omega (arith, small s, s .pre .2)
 
 add-first-2 : tie.Need-add-first-2
-add-first-2 c = let s = c .before .before .before in omega (arith, small s, s .pre .2)
+add-first-2 c = let s = start c in omega (arith, small s, s .pre .2)
+
+roll-size-requires : tie.Need-roll-size-requires
+roll-size-requires c κs = search needs
+
+add-first-3 : tie.Need-add-first-3
+add-first-3 c = let s = start1 c in omega (arith, small s, s .pre .2, c .roll-size .ensures .1)
 
 mul-second : tie.Need-mul-second
 mul-second c = search needs
@@ -58,29 +79,21 @@ add-second-2 : tie.Need-add-second-2
 add-second-2 c = search needs
 
 mul-second-2 : tie.Need-mul-second-2
-mul-second-2 c =
-    let first = c .before .before in
-    let s = first .before .before .before in
-    omega (arith, small-share s, s .pre .2)
+mul-second-2 c = let s = start2 c in omega (arith, small-share s, s .pre .2)
 
 add-second-3 : tie.Need-add-second-3
-add-second-3 c =
-    let first = c .before .before in
-    let s = first .before .before .before in
-    omega (arith, small-share s, s .pre .2, s .pre .3)
+add-second-3 c = let s = start2 c in omega (arith, small-share s, s .pre .2, s .pre .3)
 
 returns : tie.Need-returns
 returns c =
-    let second = c .before .before .before in
-    let s = second .before .before .before in
-    list-short (given s) _ _ (list-length s) (plan-length s) (c .if1 .taken)
+    let s = start2 (c .before) in
+    list-short (given s) _ _ (list-length (rolled (c .before))) (plan-length s) (c .if1 .taken)
 
 returns-2 : tie.Need-returns-2
 returns-2 c =
     let long = c .before in
-    let second = long .before .before .before in
-    let s = second .before .before .before in
-    plan-short (given s) _ _ (list-length s) (plan-length s) (long .if1 .left) (c .if2 .taken)
+    let s = start2 (long .before) in
+    plan-short (given s) _ _ (list-length (rolled (long .before))) (plan-length s) (long .if1 .left) (c .if2 .taken)
 
 list-requires : tie.Need-list-requires
 list-requires c κs = search needs
@@ -101,9 +114,8 @@ returns-3 c =
     let list = list-back .before .before in
     let room = list .before .before in
     let long = room .before in
-    let second = long .before .before .before in
-    let s = second .before .before .before in
-    both-written (given s) _ _ (list-length s) (plan-length s) (long .if1 .left) (room .if2 .left) (list .list .ensures) (plan .plan .ensures)
+    let s = start2 (long .before) in
+    both-written (given s) _ _ (list-length (rolled (long .before))) (plan-length s) (long .if1 .left) (room .if2 .left) (list .list .ensures) (plan .plan .ensures)
 
 pub both-spec : {M : Type 1} → statement M
 both-spec =
@@ -112,6 +124,8 @@ both-spec =
     add-first
     mul-first
     add-first-2
+    roll-size-requires
+    add-first-3
     mul-second
     add-second
     add-second-2
