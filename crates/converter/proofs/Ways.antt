@@ -128,7 +128,7 @@ module _ (back : Bool) (s : List ℕ) {l : Listing} (bytes : Bytes s) (took : li
   crewed : Crewed (way back .to) l
   crewed =
       let r = list-read (way back .from) 512 s read-in in
-      record { whole = subst (Whole (way back .to)) (sym (bare back s took)) tt; few = r .few-crews; named = r .crewed }
+      record { whole = subst (Whole (way back .to)) (sym (bare back s took)) tt; few-crews = r .few-crews; crewed = r .crewed }
 
   read-over : readList (way back .to) 512 (listBytes (way back .to) l) ≡ passed l
   read-over =

@@ -29,8 +29,8 @@ own a w = pair a a w
 abbrev pub example : List Site → List ℕ → List ℕ → List ℕ → List ℕ → Example
 example l g w q s = record { list = record { sites = l; roll = none }; groups = g; litres = w; sizes = q; shares = s }
 
-abbrev pub rolled : List Site → List ℕ → List ℕ → List ℕ → List ℕ → List ℕ → Example
-rolled l r g w q s = record { list = record { sites = l; roll = some r }; groups = g; litres = w; sizes = q; shares = s }
+abbrev pub exampleWith : List Site → List ℕ → List ℕ → List ℕ → List ℕ → List ℕ → Example
+exampleWith l r g w q s = record { list = record { sites = l; roll = some r }; groups = g; litres = w; sizes = q; shares = s }
 
 abbrev pub noSites : Example
 noSites = example [] [] [] [] []
@@ -64,11 +64,11 @@ nineSites =
 -- site; (0,1) of 12 and own 2 of 5 with nine, nine and one: one crew each would put {0,1} first; own 0 of 4 and own 1 of 8 with one and two: one group.
 unfoldable pub withCrews : List Example
 withCrews =
-    rolled (pair 0 1 12 ∷ []) (3 ∷ 1 ∷ []) (3 ∷ []) (12 ∷ []) (4 ∷ []) (36 ∷ [])
-    ∷ rolled (pair 0 1 12 ∷ []) (1 ∷ 1 ∷ []) (3 ∷ []) (12 ∷ []) (2 ∷ []) (12 ∷ [])
-    ∷ rolled (own 0 4 ∷ []) (2 ∷ 0 ∷ 1 ∷ []) (1 ∷ []) (4 ∷ []) (2 ∷ []) (8 ∷ [])
-    ∷ rolled (pair 0 1 12 ∷ own 2 5 ∷ []) (9 ∷ 9 ∷ 1 ∷ []) (4 ∷ 3 ∷ []) (5 ∷ 12 ∷ []) (1 ∷ 18 ∷ []) (108 ∷ 5 ∷ [])
-    ∷ rolled (own 0 4 ∷ own 1 8 ∷ []) (1 ∷ 2 ∷ []) (3 ∷ []) (12 ∷ []) (3 ∷ []) (12 ∷ 24 ∷ [])
+    exampleWith (pair 0 1 12 ∷ []) (3 ∷ 1 ∷ []) (3 ∷ []) (12 ∷ []) (4 ∷ []) (36 ∷ [])
+    ∷ exampleWith (pair 0 1 12 ∷ []) (1 ∷ 1 ∷ []) (3 ∷ []) (12 ∷ []) (2 ∷ []) (12 ∷ [])
+    ∷ exampleWith (own 0 4 ∷ []) (2 ∷ 0 ∷ 1 ∷ []) (1 ∷ []) (4 ∷ []) (2 ∷ []) (8 ∷ [])
+    ∷ exampleWith (pair 0 1 12 ∷ own 2 5 ∷ []) (9 ∷ 9 ∷ 1 ∷ []) (4 ∷ 3 ∷ []) (5 ∷ 12 ∷ []) (1 ∷ 18 ∷ []) (108 ∷ 5 ∷ [])
+    ∷ exampleWith (own 0 4 ∷ own 1 8 ∷ []) (1 ∷ 2 ∷ []) (3 ∷ []) (12 ∷ []) (3 ∷ []) (12 ∷ 24 ∷ [])
     ∷ []
 
 -- Document 02, a: groups of own sites of 4 and of 9 ({0} is 1, {1} 2), a threshold, and the sets found by reading up to the first group below it and by looking

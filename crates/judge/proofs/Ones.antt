@@ -92,8 +92,8 @@ module _ (e : Edition) (l : Listing) (range : T (depotsInRange l)) (roll : List 
   ones-crewed rolls long =
       record {
         whole = (rolls, long);
-        few = is-false _ (λ t. let r = any-at (λ d. ltb 9 (getD roll d 0)) 64 t in omega (arith, ltb→lt 9 (getD roll (r .0) 0) (r .2), ones (r .0) (r .1), when-≤ (named l (r .0)) 1));
-        named = is-false _ each;
+        few-crews = is-false _ (λ t. let r = any-at (λ d. ltb 9 (getD roll d 0)) 64 t in omega (arith, ltb→lt 9 (getD roll (r .0) 0) (r .2), ones (r .0) (r .1), when-≤ (named l (r .0)) 1));
+        crewed = is-false _ each;
       }
     where
       each : T (any (λ i. uncrewed (some roll) (siteAt l i)) (length (l .sites))) → ⊥

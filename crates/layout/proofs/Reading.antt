@@ -19,7 +19,7 @@ use Rattle.records.proofs.Records.{records-at, length-records}
 use Rattle.table.proofs.Overlay.{map-take}
 use Rattle.held_state.specs.declared.Store.{Store}
 use Rattle.layout.specs.declared.Header.{Header}
-use Rattle.layout.specs.Layout.{frontSize, rollAt, rollWrong, placeSize, placesIn, numbers, storeAt, noStore, storeIn, placeIn, sitesIn, StoreRead}
+use Rattle.layout.specs.Layout.{frontSize, rollBehind, rollWrong, placeSize, placesIn, numbers, storeAt, noStore, storeIn, placeIn, sitesIn, StoreRead}
 
 pub map-at : {A B : Type 0} (f : List A → B) (rs : List (List A)) (i : ℕ) (z : B) → i < length rs → getD (map f rs) i z ≡ f (getD rs i [])
 map-at f [] i z h = absurd (not-suc-le-zero h)
@@ -88,7 +88,7 @@ module _ (w c m at : ℕ) (s ys old : List ℕ) {k j : ℕ} (e : k ≡ min c m) 
   behind-kept = let n : k ≡ c = omega (arith, e, h) in drop-at ys (drop k old) c as-many ∙ ap (λ (i : ℕ). drop i old) n
 
 pub store-read : (w : ℕ) (r : Bool) (s : List ℕ) {x n g : ℕ} {gs₀ ss₀ gs ss : List ℕ} {o : RollArray} → Value (take 8 (drop 8 s)) x → x ≤ 1 → rollWrong r (drop (frontSize w) s) ≡ false
-    → Value (take 8 (drop 0 s)) n → Value (take 8 (drop 16 s)) g → o ≡ rollAt r (drop (frontSize w) s)
+    → Value (take 8 (drop 0 s)) n → Value (take 8 (drop 16 s)) g → o ≡ rollBehind r (drop (frontSize w) s)
     → (g ≤ 64 → take g gs ≡ take g (numbers 8 64 24 s)) → (n ≤ 512 → take n ss ≡ take n (numbers w 512 536 s))
     → (g ≤ 64 → drop g gs ≡ drop g gs₀) → (n ≤ 512 → drop n ss ≡ drop n ss₀) → StoreRead w r s gs₀ ss₀ (record { count = n; held = eqb x 1; grouped = g; roll = o }) gs ss
 store-read w r s {x} {n} {g} v l z c d o gs ss gs-behind ss-behind =

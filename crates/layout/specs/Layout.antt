@@ -53,9 +53,9 @@ abbrev pub numbers : ℕ → ℕ → ℕ → List ℕ → List ℕ
 numbers w n at s = map value (records w n (drop at s))
 
 -- the roll or none that stands behind the front of a store; without rolls there is none
-abbrev pub rollAt : Bool → List ℕ → RollArray
-rollAt true t = record { there = eqb (field t 0 8) 1; crews = drop 8 t }
-rollAt false t = rollArray none
+abbrev pub rollBehind : Bool → List ℕ → RollArray
+rollBehind true t = record { there = eqb (field t 0 8) 1; crews = drop 8 t }
+rollBehind false t = rollArray none
 
 abbrev pub rollWrong : Bool → List ℕ → Bool
 rollWrong true t = ltb 1 (field t 0 8)
@@ -69,7 +69,7 @@ storeAt w r s =
       grouped = field s 16 8;
       groups = numbers 8 64 24 s;
       shares = numbers w 512 536 s;
-      roll = rollAt r (drop (frontSize w) s);
+      roll = rollBehind r (drop (frontSize w) s);
     }
 
 abbrev pub isSized : ℕ → Bool → List ℕ → Bool

@@ -18,7 +18,7 @@ ghost use Rattle.sets.specs.Sum.{any};
 ghost use Rattle.density.specs.Network.{noSite};
 ghost use Rattle.records.specs.Values.{rollArray};
 ghost use Rattle.held_state.specs.Held.{badSite};
-ghost use Rattle.layout.specs.Layout.{storeSize, rollAt, rollWrong, placeSize, placesIn, numbers, placeIn, sitesIn, siteOfNumber, StoreRead};
+ghost use Rattle.layout.specs.Layout.{storeSize, rollBehind, rollWrong, placeSize, placesIn, numbers, placeIn, sitesIn, siteOfNumber, StoreRead};
 
 // The first words of a store: how many sites it has, whether a plan is held, and of how many groups; and its roll or none.
 pub struct Header {
@@ -90,7 +90,7 @@ fn is_roll_wrong(s: &[u8], at: usize, rolls: bool) -> bool
 // The roll or none at a place of `s`; none where the edition has no rolls.
 fn roll_in(s: &[u8], at: usize, rolls: bool) -> RollArray
     requires { ⌜ length (now s) ≡ at + cond rolls 72 0 ⌝ }
-    ensures { λ r. ⌜ r ≡ rollAt rolls (drop at (now (s .entry))) ⌝ }
+    ensures { λ r. ⌜ r ≡ rollBehind rolls (drop at (now (s .entry))) ⌝ }
 {
     if !rolls {
         return no_roll();

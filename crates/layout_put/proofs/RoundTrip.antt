@@ -23,7 +23,7 @@ use Rattle.records.proofs.Buffers.{Front, flat-append, length-flat, place-onto}
 use Rattle.table.specs.Table.{overlay}
 use Rattle.table.proofs.Overlay.{map-drop}
 use Rattle.held_state.specs.declared.Store.{Store}
-use Rattle.layout.specs.Layout.{frontSize, storeSize, frontBytes, rollPart, rollAt, rollWrong, placeSize, placesIn, storeBytes, numbers, storeIn, placeBytes, placeIn, sitesIn, tableOver, StoreFits, SiteFits}
+use Rattle.layout.specs.Layout.{frontSize, storeSize, frontBytes, rollPart, rollBehind, rollWrong, placeSize, placesIn, storeBytes, numbers, storeIn, placeBytes, placeIn, sitesIn, tableOver, StoreFits, SiteFits}
 use Rattle.layout_put.specs.Put.{PutStore, PutFront}
 
 -- ---- numbers, one after another
@@ -60,7 +60,7 @@ pub length-roll : (r : Bool) (o : RollArray) → length (o .crews) ≡ 64 → le
 length-roll true o h = rw (length-append, length-le 8, h)
 length-roll false o h = refl
 
-roll-back : (r : Bool) (o : RollArray) → (r ≡ false → o ≡ rollArray none) → rollAt r (rollPart r o) ≡ o
+roll-back : (r : Bool) (o : RollArray) → (r ≡ false → o ≡ rollArray none) → rollBehind r (rollPart r o) ≡ o
 roll-back true o h =
     ap₂ (λ (t : Bool) (c : List ℕ). record { there = t; crews = c })
     (ap (λ (n : ℕ). eqb n 1) (field-here 8 (bit (o .there)) (o .crews) (bit-fits (o .there))) ∙ bit-back (o .there))
@@ -306,7 +306,7 @@ bit-again (suc (suc x)) h = let k = leb-true (suc (suc x)) 1 h in absurd (omega 
 number-again : (w : ℕ) (r : List ℕ) → length r ≡ w → Bytes r → le w (value r) ≡ r
 number-again w r h b = ap (λ (k : ℕ). le k (value r)) (sym h) ∙ le-value r b
 
-roll-again : (r : Bool) (t : List ℕ) → length t ≡ cond r 72 0 → Bytes t → rollWrong r t ≡ false → rollPart r (rollAt r t) ≡ t
+roll-again : (r : Bool) (t : List ℕ) → length t ≡ cond r 72 0 → Bytes t → rollWrong r t ≡ false → rollPart r (rollBehind r t) ≡ t
 roll-again true t long b h =
     let few : field t 0 8 ≤ 1 = ltb-false 1 (field t 0 8) h in
     rw (bit-again (field t 0 8) (le-leb (field t 0 8) 1 few), le-field t 0 8 b (omega arith))
@@ -330,7 +330,7 @@ module _ (w : ℕ) (r : Bool) (s : List ℕ) (long : length s ≡ storeSize w r)
       (no-test (records w 512 (drop 536 s)))
 
   -- what stands behind the front, where its number is 0 or 1
-  pub last-again : rollWrong r (drop (frontSize w) s) ≡ false → rollPart r (rollAt r (drop (frontSize w) s)) ≡ drop (frontSize w) s
+  pub last-again : rollWrong r (drop (frontSize w) s) ≡ false → rollPart r (rollBehind r (drop (frontSize w) s)) ≡ drop (frontSize w) s
   last-again = roll-again r (drop (frontSize w) s) (rw length-drop (omega arith)) (bytes-drop (frontSize w) s b)
 
   pub store-again : leb (field s 8 8) 1 ≡ true → rollWrong r (drop (frontSize w) s) ≡ false → storeBytes w r (storeIn w r s) ≡ s
@@ -375,7 +375,7 @@ module _ (w : ℕ) (r : Bool) (s : Store) (many : length (s .groups) ≡ 64) (ea
   put-over f e = store-is (f ∙ ap (λ (n : ℕ). frontBytes w s ++ drop n first) (length-front w s many each) ∙ ap (λ (t : List ℕ). frontBytes w s ++ t) e)
 
   -- that is the roll read, where its number is 0 or 1
-  pub put-kept : Bytes first → rollWrong r (drop (frontSize w) first) ≡ false → s .roll ≡ rollAt r (drop (frontSize w) first) → PutFront w s first last → PutStore w r s last
+  pub put-kept : Bytes first → rollWrong r (drop (frontSize w) first) ≡ false → s .roll ≡ rollBehind r (drop (frontSize w) first) → PutFront w s first last → PutStore w r s last
   put-kept b z e f = put-over f (sym (ap (rollPart r) e ∙ last-again w r first long b z))
 
   -- or nothing, where the edition has no rolls

@@ -15,7 +15,7 @@ ghost use Rattle.records.specs.Write.{place, onto};
 ghost use Rattle.records.specs.declared.RollArray.{RollArray};
 ghost use Rattle.store.specs.State.{bare};
 ghost use Rattle.layout.specs.Layout.{frontSize, storeSize, rollPart, placeSize, placeBytes, tableOver, StoreFits};
-ghost use Rattle.layout_put.specs.Put.{PutFront, PutSites};
+ghost use Rattle.layout_put.specs.Put.{heldStore, PutFront, PutSites};
 
 // Writes numbers of `w` bytes, one behind the other, to the front of `out`.
 fn put_numbers(out: &mut [u8], w: usize, xs: &[u64])
@@ -62,7 +62,7 @@ pub fn put_plan(
     shares: &[u64],
 )
     requires { ⌜ (frontSize w ≤ length (now out)) × (length (now groups) ≡ 64) × (length (now shares) ≡ 512) ⌝ }
-    ensures { λ _. ⌜ ((roll : RollArray) → PutFront w (record { count = count; held = true; grouped = grouped; groups = now (groups .entry); shares = now (shares .entry); roll = roll }) (now (out .entry)) (now (out .exit))) × ((roll : RollArray) → ((i : ℕ) → getD (now (shares .entry)) i 0 < 256 ^ w) → StoreFits w (record { count = count; held = true; grouped = grouped; groups = now (groups .entry); shares = now (shares .entry); roll = roll })) ⌝ }
+    ensures { λ _. ⌜ ((roll : RollArray) → PutFront w (heldStore count grouped (now (groups .entry)) (now (shares .entry)) roll) (now (out .entry)) (now (out .exit))) × ((roll : RollArray) → ((i : ℕ) → getD (now (shares .entry)) i 0 < 256 ^ w) → StoreFits w (heldStore count grouped (now (groups .entry)) (now (shares .entry)) roll)) ⌝ }
 {
     number_at(out, 0, 8, count as u64);
     number_at(out, 8, 8, 1);

@@ -39,7 +39,7 @@ use Rattle.store.proofs.Rules.{reading-leaves}
 use Rattle.store.proofs.Widths.{below, repeated-at, read-at, step-fits}
 use Rattle.store_calls.proofs.Steps.{held-site}
 use Rattle.layout.specs.declared.Header.{Header}
-use Rattle.layout.specs.Layout.{frontSize, storeSize, rollAt, rollWrong, placeSize, placesIn, storeBytes, storeAt, noStore, storeIn, placeBytes, placeIn, sitesIn, tableOver, StoreFits, StoreRead}
+use Rattle.layout.specs.Layout.{frontSize, storeSize, rollBehind, rollWrong, placeSize, placesIn, storeBytes, storeAt, noStore, storeIn, placeBytes, placeIn, sitesIn, tableOver, StoreFits, StoreRead}
 use Rattle.layout.proofs.Reading.{length-sites, site-here}
 use Rattle.layout_put.specs.Put.{PutStore, PutFront, PutSites}
 use Rattle.layout_put.proofs.RoundTrip.{table-again, put-kept}
@@ -95,7 +95,7 @@ module _ (e : Edition) where
   unrolled s h = by (isStore s)
     where
       by : (z : Bool) → cond z (storeAt (e .share) (e .roll) s) noStore .roll ≡ rollArray none
-      by true = ap (λ (b : Bool). rollAt b (drop (frontSize (e .share)) s)) h
+      by true = ap (λ (b : Bool). rollBehind b (drop (frontSize (e .share)) s)) h
       by false = refl
 
   state-fits : (m : ℕ) (s t : List ℕ) → Bytes s → Bytes t → Fits m (stateIn e s t)
@@ -103,12 +103,12 @@ module _ (e : Edition) where
 
   -- Of a store that row 0 may pass the number in front of a roll is 0 or 1, and its roll is the one that stands there.
   pub roll-stands : (s : List ℕ) → storeIn (e .share) (e .roll) s .count ≤ 512
-      → (rollWrong (e .roll) (drop (frontSize (e .share)) s) ≡ false) × (storeIn (e .share) (e .roll) s .roll ≡ rollAt (e .roll) (drop (frontSize (e .share)) s))
+      → (rollWrong (e .roll) (drop (frontSize (e .share)) s) ≡ false) × (storeIn (e .share) (e .roll) s .roll ≡ rollBehind (e .roll) (drop (frontSize (e .share)) s))
   unfolding storeIn
   roll-stands s = by (leb (field s 8 8) 1) (rollWrong (e .roll) (drop (frontSize (e .share)) s))
     where
       by : (a b : Bool) → cond (a && not b) (storeAt (e .share) (e .roll) s) noStore .count ≤ 512
-          → (b ≡ false) × (cond (a && not b) (storeAt (e .share) (e .roll) s) noStore .roll ≡ rollAt (e .roll) (drop (frontSize (e .share)) s))
+          → (b ≡ false) × (cond (a && not b) (storeAt (e .share) (e .roll) s) noStore .roll ≡ rollBehind (e .roll) (drop (frontSize (e .share)) s))
       by true false h = (refl, refl)
       by true true h = absurd (omega arith)
       by false b h = absurd (omega arith)

@@ -132,9 +132,9 @@ module _ (e : Edition) (m : Marked e) where
                     (
                       rw list-records (any-map (siteBytes e) (noLitres (e .litres)) (Good e) (λ (x : Site) (g : Good e x). rw (site-litres x g) (ne-eqb (x .litres) 0 (omega (arith, g .allowed .some)))) (l .sites) good),
                       (
-                        rw list-roll (c .few),
+                        rw list-roll (c .few-crews),
                         (
-                          rw (list-listing good) (c .named),
+                          rw (list-listing good) (c .crewed),
                           tt,
                         ),
                       ),

@@ -117,8 +117,8 @@ Whole e (some roll) = (e .roll ≡ true) × (length roll ≡ 64)
 -- and rows 22 and 23 do not refuse the list
 pub record Crewed (e : Edition) (l : Listing) : Type 0 where
   pub whole : Whole e (l .roll)
-  pub few : crewsAbove (l .roll) ≡ false
-  pub named : sitesUncrewed l ≡ false
+  pub few-crews : crewsAbove (l .roll) ≡ false
+  pub crewed : sitesUncrewed l ≡ false
 
 -- a plan has at most 64 groups and 512 shares, and its numbers have the widths of their fields
 pub record GoodPlan (e : Edition) (p : Plan) : Type 0 where

@@ -85,7 +85,7 @@ module _ (s : State) (i : Intact s) (fit : PlacesFit (s .store .count) s) where
 
   -- rows 22 and 23 do not refuse it
   pub held-crewed : Whole (s .edition) (listOf s .roll) → Crewed (s .edition) (listOf s)
-  held-crewed w = record { whole = w; few = i .good .roll; named = good-crewed (listOf s) (i .good) }
+  held-crewed w = record { whole = w; few-crews = i .good .roll; crewed = good-crewed (listOf s) (i .good) }
 
   held-back : Marked (s .edition) → Whole (s .edition) (listOf s .roll) → (places : ℕ) → count (modelOf s) ≤ places → readList (s .edition) places (listOut s) ≡ passed (listOf s)
   held-back m w places room = list-back (s .edition) m (listOf s) (rw (sized s (i .room)) (i .few)) (held-crewed w) places room held-good

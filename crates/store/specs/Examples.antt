@@ -12,7 +12,7 @@ use Rattle.records.specs.Values.{Plan}
 use Rattle.records.specs.declared.Edition.{Edition}
 use Rattle.records.specs.Format.{edition1, edition2}
 use Rattle.records.specs.Samples.{listT, planT, listBig, planBig, crewsThreeOne, Rolled, listWith, listRolled, planOfRolled}
-use Rattle.judge.specs.Refusals.{group, share}
+use Rattle.judge.specs.Refusals.{group, share, plan2, share2}
 use Rattle.store.specs.declared.Request.{Request}
 use Rattle.store.specs.declared.Request.the-variants.{Load, Change, Add, Propose, Share, Depot, Difference, Written, AtLeast, ListWritten}
 use Rattle.store.specs.Calls.{Call, Event, called, migrate, Reply, Told, unbuffered, refused, done, shared, loaded, differ, wrote, reached}
@@ -354,7 +354,7 @@ addedE more = record { edition = edition2; places = 3; list = plain (pair 0 1 10
 -- ---- crews, in edition 2: (0,1) of 12 litres, where depot 0 has three crews and depot 1 one
 
 abbrev pub planC : ℕ → List ℕ
-planC x = 0x50 ∷ 0x32 ∷ 0x01 ∷ 0x01 ∷ 0x00 ∷ group 0x03 (0x53 ∷ 0x33 ∷ x ∷ 0x00 ∷ 0x00 ∷ 0x00 ∷ 0x00 ∷ 0x00 ∷ 0x00 ∷ 0x00 ∷ [])
+planC x = plan2 (share2 x)
 
 -- the list with a roll that has these bytes for depots 0 and 1, and none for the others
 abbrev pub listCrewed : ℕ → ℕ → List ℕ

@@ -10,14 +10,14 @@ use lib.Dec.{eqb}
 use lib.ListN.{length, drop, length-drop}
 use lib.Seq.{take-all, drop-drop}
 use Rattle.records.specs.declared.RollArray.{RollArray}
-use Rattle.layout.specs.Layout.{rollAt}
+use Rattle.layout.specs.Layout.{rollBehind}
 use Rattle.layout.proofs.Reading.{rolls-room}
 use Rattle.layout.proofs.roll_in.Statement.{statement}
 use Rattle.layout.proofs.roll_in.Tie as tie
 
 -- the answer, by whether the edition has rolls
 abbrev roll : tie.Start → Bool → RollArray
-roll s b = rollAt b (drop (s .args .at) (s .args .s .now))
+roll s b = rollBehind b (drop (s .args .at) (s .args .s .now))
 
 -- where the edition has rolls: from the beginning, and there is room for one
 abbrev start : tie.Else1 → tie.Start
