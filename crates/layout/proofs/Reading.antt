@@ -19,7 +19,7 @@ use Rattle.records.proofs.Records.{records-at, length-records}
 use Rattle.table.proofs.Overlay.{map-take}
 use Rattle.held_state.specs.declared.Store.{Store}
 use Rattle.layout.specs.declared.Header.{Header}
-use Rattle.layout.specs.Layout.{frontSize, rollBehind, rollWrong, placeSize, placesIn, numbers, storeAt, noStore, storeIn, placeIn, sitesIn, StoreRead}
+use Rattle.layout.specs.Layout.{frontSize, rollBehind, rollWrong, placeSize, placesIn, numbers, storeAt, noStore, storeIn, placeIn, sitesIn, StoreRead, noHeader}
 
 pub map-at : {A B : Type 0} (f : List A → B) (rs : List (List A)) (i : ℕ) (z : B) → i < length rs → getD (map f rs) i z ≡ f (getD rs i [])
 map-at f [] i z h = absurd (not-suc-le-zero h)
@@ -103,10 +103,6 @@ store-read w r s {x} {n} {g} v l z c d o gs ss gs-behind ss-behind =
       groups-behind = gs-behind;
       shares-behind = ss-behind;
     }
-
--- what is answered for bytes that are no store
-abbrev pub noHeader : Header
-noHeader = record { count = 513; held = false; grouped = 0; roll = rollArray none }
 
 none-read : (w : ℕ) (r : Bool) (s gs ss : List ℕ) {h : Header} → storeIn w r s ≡ noStore → h ≡ noHeader → StoreRead w r s gs ss h gs ss
 none-read w r s gs ss e is =

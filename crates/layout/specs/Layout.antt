@@ -79,6 +79,10 @@ isSized w r s = eqb (length s) (storeSize w r)
 abbrev pub noStore : Store
 noStore = record { count = 513; held = false; grouped = 0; groups = replicate 64 0; shares = replicate 512 0; roll = rollArray none }
 
+-- the first words of such a store
+abbrev pub noHeader : Header
+noHeader = record { count = 513; held = false; grouped = 0; roll = rollArray none }
+
 unfoldable pub storeIn : ℕ → Bool → List ℕ → Store
 storeIn w r s = cond (leb (field s 8 8) 1 && not (rollWrong r (drop (frontSize w) s))) (storeAt w r s) noStore
 

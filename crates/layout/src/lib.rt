@@ -11,14 +11,12 @@ use records::scan::either;
 use table::capacity;
 ghost use mathlib.Core.Path.{_≡_};
 ghost use mathlib.Core.Bool.{false, cond};
-ghost use mathlib.Core.Option.{none};
 ghost use Prim.Native.Nat.{_<_, _≤_, _+_, _*_, _-_, _^_, min};
 ghost use lib.ListN.{length, take, drop, getD};
 ghost use Rattle.sets.specs.Sum.{any};
 ghost use Rattle.density.specs.Network.{noSite};
-ghost use Rattle.records.specs.Values.{rollArray};
 ghost use Rattle.held_state.specs.Held.{badSite};
-ghost use Rattle.layout.specs.Layout.{storeSize, rollBehind, rollWrong, placeSize, placesIn, numbers, placeIn, sitesIn, siteOfNumber, StoreRead};
+ghost use Rattle.layout.specs.Layout.{storeSize, noHeader, rollBehind, rollWrong, placeSize, placesIn, numbers, placeIn, sitesIn, siteOfNumber, StoreRead};
 
 // The first words of a store: how many sites it has, whether a plan is held, and of how many groups; and its roll or none.
 pub struct Header {
@@ -65,7 +63,7 @@ fn numbers_in(out: &mut [u64], s: &[u8], from: usize, w: usize)
 
 // What bytes that are no store read as: more sites than a store can have.
 fn no_store() -> Header
-    ensures { λ r. ⌜ r ≡ record { count = 513; held = false; grouped = 0; roll = rollArray none } ⌝ }
+    ensures { λ r. ⌜ r ≡ noHeader ⌝ }
 {
     let roll = no_roll();
     Header {

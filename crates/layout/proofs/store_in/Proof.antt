@@ -16,10 +16,11 @@ tested c =
     let f = c .before .before in
     f .before .before
 
+abbrev begun : tie.After-field → tie.Start
+begun f = f .before .before .before .before
+
 abbrev start : tie.After-least2 → tie.Start
-start c =
-    let f = tested c .before .before .before in
-    f .before .before .before .before
+start c = begun (tested c .before .before .before)
 
 -- as many places are lent as there are, and no more than are asked for
 groups-lent : (c : tie.After-least2) → length (take (c .before .least .result) (start c .args .groups .now)) ≡ c .before .least .result
@@ -41,7 +42,7 @@ no-store-requires c κs = search needs
 returns : tie.Need-returns
 returns c =
     let f = c .before .before in
-    let a = f .before .before .before .before .args in
+    let a = begun f .args in
     store-none (a .w) (a .rolls) (a .s .now) (a .groups .now) (a .shares .now) (f .field .ensures) (c .before .if1 .taken) (c .no-store .ensures)
 
 mul-front : tie.Need-mul-front
@@ -51,9 +52,7 @@ add-front : tie.Need-add-front
 add-front c = search needs
 
 is-roll-wrong-requires : tie.Need-is-roll-wrong-requires
-is-roll-wrong-requires c κs =
-    let f = c .before in
-    f .before .before .before .before .pre .1
+is-roll-wrong-requires c κs = begun (c .before) .pre .1
 
 no-store-requires-2 : tie.Need-no-store-requires-2
 no-store-requires-2 c κs = search needs

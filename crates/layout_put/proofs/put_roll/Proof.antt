@@ -37,7 +37,8 @@ same-length c = search needs
 returns : tie.Need-returns
 returns c =
     let p = c .before .before in
-    let q = p .before .before .before .before in
+    let out = p .before .before .before in
+    let q = out .before in
     let b = q .before in
     let k = b .before .before .before in
     let s = k .before in

@@ -38,9 +38,13 @@ fills c buffer =
     let a = start r .args in
     load-fills (a .e) (now (a .store)) (now (a .table)) (asked r buffer) refl (r .read .ensures) (c .answer .given .1)
 
+-- where the list's count was told, from where its roll is taken out
+abbrev told : tie.After-roll → tie.After-answer
+told r = r .before .before .before .before
+
 put-sites-requires : tie.Need-put-sites-requires
 put-sites-requires c κs =
-    let d = c .before .before .before .before .before in
+    let d = told (c .before) in
     let a = start (d .before .before) .args in
     let f = fills d (now (a .input)) in
     (f .few, places-fit (a .e .litres) _ (now (a .table)) (f .room))
@@ -48,7 +52,7 @@ put-sites-requires c κs =
 put-new-requires : tie.Need-put-new-requires
 put-new-requires c κs =
     let p = c .before .before .before in
-    let d = p .before .before .before .before .before .before in
+    let d = told (p .before .before) in
     start (d .before .before) .pre .1
 
 enum-known-answer-2 : tie.Need-enum-known-answer-2
@@ -64,7 +68,7 @@ returns : tie.Need-returns
 returns c = λ buffer.
     let b = c .before .before in
     let p = b .before .before .before .before in
-    let d = p .before .before .before .before .before .before in
+    let d = told (p .before .before) in
     let r = d .before .before in
     let k = r .before .before in
     let a = start r .args in

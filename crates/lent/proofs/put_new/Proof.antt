@@ -28,9 +28,13 @@ put-bare-requires c κs = let s = c .before .before in front-room (s .args .e) (
 same-length : tie.Need-same-length
 same-length c = search needs
 
+-- where the front was written, from where the edition's rolls are asked
+abbrev fronted : tie.After-struct-known → tie.After-put-bare
+fronted k = k .before .before .before
+
 returns : tie.Need-returns
 returns c =
-    let p = c .before .before .before .before in
+    let p = fronted (c .before) in
     let s = p .before .before .before in
     let a = s .args in
     put-front (a .e .share) (a .e .roll) (bare (a .n) (a .roll)) (length-zeros 64) (length-zeros 512) (fits s) (now (a .store)) (sized-is (a .e) (now (a .store)) (s .pre))
@@ -38,9 +42,7 @@ returns c =
 
 -- the edition has rolls: the beginning, and so the bytes are as long
 abbrev start : tie.Else1 → tie.Start
-start c =
-    let p = c .before .before .before .before in
-    p .before .before .before
+start c = fronted (c .before) .before .before .before
 
 rolls : (c : tie.Else1) → start c .args .e .roll ≡ true
 rolls c = not-false (start c .args .e .roll) (c .if1 .left)
@@ -48,7 +50,7 @@ rolls c = not-false (start c .args .e .roll) (c .if1 .left)
 put-roll-requires : tie.Need-put-roll-requires
 put-roll-requires c κs =
     let i = c .before in
-    let p = i .before .before .before .before in
+    let p = fronted (i .before) in
     let s = start i in
     let a = s .args in
     p .put-bare .kept .0 ∙ sized-is (a .e) (now (a .store)) (s .pre) ∙ ap (storeSize (a .e .share)) (rolls i)
@@ -60,7 +62,7 @@ returns-2 : tie.Need-returns-2
 returns-2 c =
     let q = c .before .before in
     let i = q .before .before in
-    let p = i .before .before .before .before in
+    let p = fronted (i .before) in
     let s = start i in
     let a = s .args in
     put-both (a .e .share) (a .e .roll) (bare (a .n) (a .roll)) (length-zeros 64) (length-zeros 512) (fits s) (now (a .store)) (sized-is (a .e) (now (a .store)) (s .pre))

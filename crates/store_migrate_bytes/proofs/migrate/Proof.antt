@@ -56,8 +56,8 @@ list-in-requires c κs = fitting (first (c .before .before .before)) .0
 
 summary-requires : tie.Need-summary-requires
 summary-requires c κs =
-    let r = c .before .before .before .before in
-    fitting (first r) .0
+    let listed = c .before in
+    fitting (first (listed .before .before .before)) .0
 
 slice-aggregate-is-corrupt : tie.Need-slice-aggregate-is-corrupt
 slice-aggregate-is-corrupt c = search needs
