@@ -33,8 +33,9 @@
  * Depots are 0 to 63, sites at most 512 and counted from 0; litres 1 to 65,535 in edition 1 and 1 to 4,294,967,295
  * in edition 2. A site with one depot twice is an own site. A list that does not begin 4C 32 is read as one of
  * edition 1, whose row 1 refuses it where it does not begin 4C 53. A roll has 0 to 9 crews for a depot, and 1 or more
- * for each depot that a site names; without a roll every depot has one crew. A depot that no site names is not listed,
- * whatever its crews. A roll with 1 for each depot that a site names and 0 for every other says the same as none.
+ * for each depot that a site names; without a roll every depot has one crew. A depot is listed if a site names it or
+ * the roll has crews for it. The listed depots that no site names are together the last group of a plan, with W 0. A
+ * roll with 1 for each depot that a site names and 0 for every other says the same as none.
  *
  * Which calls serve which edition. Check and Make take a list of either edition; a plan passes only with a list of
  * its own edition, and row 7 refuses the other; Make writes in the list's edition. Upgrade takes edition 1 and writes

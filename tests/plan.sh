@@ -75,6 +75,14 @@ list=$(hex <"$work/list")
 written_out 'table2 5' "load $list" | cmp - "$work/list" || fail "the list with a roll written out is not the one loaded"
 [ "$(written_out 'table2 5' "load $list" 'change 0 1600' 'add 3 3 60' | target/bin/plan | head -n 2)" = "5 sites, 4 depots, 3 groups
 group 1: depots 0 1 carry 1600 litres, 400 per crew" ] || fail "the list with a roll written out is not the desk's"
+# the same with a depot that opens empty, and then with a site for it
+{ cat samples/crews.txt && echo 'crews 9 2'; } | tools/list.sh -2 >"$work/list"
+list=$(hex <"$work/list")
+written_out 'table2 5' "load $list" | cmp - "$work/list" || fail "the list with a depot without sites written out is not the one loaded"
+target/bin/plan <"$work/list" | diff <(sed -e '1s/.*/4 sites, 5 depots, 4 groups/' -e '/^group 3/a group 4: depot 9 carries 0 litres, 0 per crew' tests/plans/crews.txt) - || fail "crews.txt and a depot without sites: not its plan"
+[ "$(written_out 'table2 5' "load $list" 'add 9 9 60' | target/bin/plan | sed -n '1p;/depot 9/p')" = "5 sites, 5 depots, 4 groups
+group 4: depot 9 carries 60 litres, 30 per crew
+site 4: depot 9 brings 60 of 60 litres" ] || fail "the depot with a site: not its plan"
 
 # the records that document 01 gives
 tools/list.sh <samples/two.txt | cmp - crates/depots/stdin || fail "two.txt: not the sample of depots"
@@ -102,7 +110,18 @@ tools/list.sh <"$work/most" | cmp - tests/depots/full.in || fail "512 sites"
 [ "$(printf '0 1 12\ncrews 0 3' | tools/list.sh -2 | target/bin/plan)" = "1 site, 2 depots, 1 group
 group 1: depots 0 1 carry 12 litres, 3 per crew
 site 0: depot 0 brings 9, depot 1 brings 3 of 12 litres" ] || fail "three crews and one"
-[ "$(printf 'crews 5 1\n' | tools/list.sh -2 | target/bin/plan)" = "0 sites, 0 depots, 0 groups" ] || fail "a roll without sites"
+# depots with crews that no site names: the last group
+[ "$(printf 'crews 5 1\n' | tools/list.sh -2 | target/bin/plan)" = "0 sites, 1 depot, 1 group
+group 1: depot 5 carries 0 litres" ] || fail "a roll without sites"
+[ "$(printf 'crews 63 9\ncrews 5 1\n' | tools/list.sh -2 | target/bin/plan)" = "0 sites, 2 depots, 1 group
+group 1: depots 5 63 carry 0 litres, 0 per crew" ] || fail "two depots without sites"
+[ "$(printf '1 2 12\ncrews 0 2\ncrews 1 3\ncrews 63 1' | tools/list.sh -2 | target/bin/plan)" = "1 site, 4 depots, 2 groups
+group 1: depots 1 2 carry 12 litres, 3 per crew
+group 2: depots 0 63 carry 0 litres, 0 per crew
+site 0: depot 1 brings 9, depot 2 brings 3 of 12 litres" ] || fail "depots without sites behind others"
+[ "$(for ((i = 0; i < 64; i++)); do echo "crews $i 9"; done | tools/list.sh -2 | target/bin/plan | sed 's/depots 0 .* carry/carry/')" = "0 sites, 64 depots, 1 group
+group 1: carry 0 litres, 0 per crew" ] || fail "64 depots without sites"
+[ "$(printf 'L2\x00\x00DR' | cat - <(head -c 64 /dev/zero) | target/bin/plan)" = "0 sites, 0 depots, 0 groups" ] || fail "a roll without crews"
 [ "$(for ((i = 0; i < 64; i++)); do echo "$i $i 7"; echo "crews $i 9"; done | tools/list.sh -2 | target/bin/plan | sed -n '1,2p' | sed 's/depots 0 .* carry/carry/')" = "64 sites, 64 depots, 1 group
 group 1: carry 448 litres, 448/576 per crew" ] || fail "nine crews each"
 sed 's/65535$/4294967295/' "$work/most" | tools/list.sh -2 >"$work/list"

@@ -6,7 +6,8 @@
 #
 # A site is a line of three decimal numbers apart by spaces or tabs: its first depot, its second depot
 # (0 to 63, the same twice for an own site) and its litres: 1 to 65535, or with -2 1 to 4294967295. With -2 a line
-# `crews DEPOT N` gives a depot N crews, 1 to 9, and the list a roll: in it every other depot that a site names has one crew. Blank lines
+# `crews DEPOT N` gives a depot N crews, 1 to 9, whether a site names it or not, and the list a roll: in it every other
+# depot that a site names has one crew. Blank lines
 # are passed over, and so is all from a `#` to the end of a line, a carriage return at the end and a UTF-8 mark at the front.
 # A list has at most 512 sites; a file of blank lines and comments alone is the list without sites.
 # Anything else is refused: a line that is none of these, has a byte 00 or 01 or over 1,000 bytes; an input

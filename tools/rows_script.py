@@ -1,5 +1,5 @@
 #!/usr/bin/env python3
-"""Writes the console's script of calls and the answers that it must print, from document 01 and requests a to e and g of document 02 alone.
+"""Writes the console's script of calls and the answers that it must print, from document 01 and requests a to e, g and h of document 02 alone.
 
   rows_script.py DIR           writes DIR/stdin and DIR/stdout
   rows_script.py DIR PROGRAM   the same, with the answers of the part `make` taken from the program, and shows which of them differ from what is written here
@@ -10,6 +10,7 @@ The answer of a check is the row that the case is written for. It is compared wi
 What is converted between the editions is read here as figures and written here in the other edition (`converted`); it is held to the rows there, and to the first bytes on the way back.
 The answers of the desk's calls are those of `Book`, document 01's plain book with the question of request a and the writer of request b, of either edition: whether a proposal is true is counted over all sets, and held to the rows.
 Request g's roll goes along with the sites (`Sites`): a size is the crews of a set added up (`size`), and each depot is to have its crews times W.
+Request h's depots, which have crews and no site, are among the listed ones (`listed`), so that the definition has them in the last group.
 Request e's step turns the book of edition 1 into one of edition 2 (`Book.migrate`). Around it every question is put twice and has to get the same figures, and what is written out behind it is what `converted` makes of what was written out before.
 """
 import subprocess
@@ -134,8 +135,13 @@ def some(e, cases):
 
 # ---- the definition, over every set
 
+def named(sites):
+    return {d for s in sites for d in s[:2]}
+
+
 def listed(sites):
-    return sorted({d for s in sites for d in s[:2]})
+    """"A depot with crews in the roll is listed even without sites.\""""
+    return sorted(named(sites) | {d for d, n in enumerate(roll_of(sites) or ()) if n})
 
 
 def litres(sites, chosen, grouped):
@@ -837,8 +843,11 @@ def drawn(seed):
 
 
 def drawn_roll(draw, depots):
-    """A roll with 1 to 9 crews at each of the first depots, often few, and at some of the others none or some."""
-    return bytes(1 + draw((1, 3, 9)[draw(3)]) if d < depots else draw(2) * draw(10) for d in range(64))
+    """A roll with 1 to 9 crews at each of the first depots, often few, and some at no more than three of the others."""
+    roll = bytearray(1 + draw((1, 3, 9)[draw(3)]) if d < depots else 0 for d in range(64))
+    for _ in range(draw(4)):
+        roll[depots + draw(64 - depots)] = draw(10)
+    return bytes(roll)
 
 
 def part_small(e, networks, rolls=False):
@@ -873,6 +882,7 @@ def part_small(e, networks, rolls=False):
 
 PAIR = [(0, 1, 12)]
 ONES = crews_roll({}, 1)
+ALL = set(range(64))
 
 
 def rolled(sites, given, others=0):
@@ -880,9 +890,52 @@ def rolled(sites, given, others=0):
     return Sites(sites, crews_roll(given, others))
 
 
-def listed_roll(sites):
+def named_roll(sites):
     """"A roll with 1 for each depot that a site names and 0 for every other.\""""
-    return Sites(sites, crews_roll({d: 1 for d in listed(sites)}))
+    return Sites(sites, crews_roll({d: 1 for d in named(sites)}))
+
+
+def part_isolated():
+    e = E2
+    say("Depots with crews that no site names are listed: together they are the last group, with W 0.")
+    known(e, "(0,1) of 12, one crew at depot 2 too", rolled(PAIR, {0: 1, 1: 1, 2: 1}), [{0, 1}, {2}], [12, 0], [12])
+    known(e, "(1,2) of 12, nine crews at depot 0 too", rolled([(1, 2, 12)], {0: 9, 1: 1, 2: 1}), [{1, 2}, {0}], [12, 0], [12])
+    known(e, "own 0 of 12, own 1 of 1 with nine crews, one crew at depot 2", rolled([own(0, 12), own(1, 1)], {0: 1, 1: 9, 2: 1}), [{0}, {1}, {2}], [12, 1, 0], [12, 9])
+    known(e, "own 0 and own 1 of 4 each, crews at depots 2 and 3 too", rolled(FOURS, {0: 1, 1: 1, 2: 3, 3: 7}), [{0, 1}, {2, 3}], [8, 0], [8, 8])
+    sites = rolled(PAIR, {0: 3, 1: 1, 5: 9, 63: 2})
+    known(e, "(0,1) of 12, crews at depots 5 and 63 too", sites, [{0, 1}, {5, 63}], [12, 0], [36])
+    for words, groups, row in (("left out", [{0, 1}], 13), ("depot 63 left out", [{0, 1}, {5}], 13), ("depot 5 left out", [{0, 1}, {63}], 13),
+                               ("with depot 2, which has no crew", [{0, 1}, {2, 5, 63}], 13), ("depot 2 behind them", [{0, 1}, {5, 63}, {2}], 13),
+                               ("an empty group behind them", [{0, 1}, {5, 63}, set()], 12), ("depot 5 twice", [{0, 1}, {5}, {5, 63}], 12),
+                               ("joined to the group before", [{0, 1, 5, 63}], 15), ("depot 5 joined to it", [{0, 1, 5}, {63}], 15), ("depot 63 joined to it", [{0, 1, 63}, {5}], 15),
+                               ("each in a group of its own", [{0, 1}, {5}, {63}], 16), ("each in a group of its own, 63 first", [{0, 1}, {63}, {5}], 16),
+                               ("their group first", [{5, 63}, {0, 1}], 16), ("depot 5 first", [{5}, {0, 1}, {63}], 16)):
+        shares = placed(sites, groups) if row == 15 else [36]
+        check(f"row {row}: {words}", e.list(sites), e.plan(groups, shares), row)
+    say("No sites: they are the only group.")
+    none = rolled([], {0: 1, 7: 9, 63: 3})
+    known(e, "crews at depots 0, 7 and 63", none, [{0, 7, 63}], [0], [])
+    for words, groups, row in (("no group", [], 13), ("depot 63 left out", [{0, 7}], 13), ("depot 1 too", [{0, 1, 7, 63}], 13), ("depot 7 twice", [{0, 7}, {7, 63}], 12),
+                               ("two groups", [{0, 7}, {63}], 16), ("three", [{0}, {7}, {63}], 16)):
+        check(f"row {row}: {words}", e.list(none), e.plan(groups, []), row)
+    known(e, "no sites and no crews", rolled([], {}), [], [], [])
+    check("row 13: a group", e.list(rolled([], {})), e.plan([{0}], []), 13)
+    say("All 64 depots, none of them with a site; then one with a site, and two.")
+    for n in (1, 9):
+        record = e.list(rolled([], {}, n))
+        check(f"no sites, {n} at each", record, e.plan([ALL], []), 0)
+        check("row 13: no group", record, e.plan([], []), 13)
+        check("row 13: depot 63 left out", record, e.plan([ALL - {63}], []), 13)
+        check("row 16: 64 groups", record, e.plan([{d} for d in range(64)], []), 16)
+        for d in (0, 63):
+            record, others = e.list(rolled([own(d, 7)], {}, n)), ALL - {d}
+            check(f"own {d} of 7, {n} at each", record, e.plan([{d}, others], [7 * n]), 0)
+            check("row 13: the others left out", record, e.plan([{d}], [7 * n]), 13)
+            check("row 15: one group", record, e.plan([ALL], [7 * 64 * n]), 15)
+            check("row 16: 64 groups", record, e.plan([{d}] + [{x} for x in sorted(others)], [7 * n]), 16)
+            check("row 16: the others first", record, e.plan([others, {d}], [7 * n]), 16)
+    check("(0,1) of 12, nine at every other", e.list(rolled(PAIR, {0: 1, 1: 1}, 9)), e.plan([{0, 1}, ALL - {0, 1}], [12]), 0)
+    check("512 own sites of depot 5, nine at each", e.list(rolled([own(5, e.most)] * 512, {}, 9)), e.plan([{5}, ALL - {5}], [9 * e.most] * 512), 0)
 
 
 def part_crews():
@@ -914,17 +967,14 @@ def part_crews():
     known(e, "own 5 of 7, crews at depot 5 only", rolled([own(5, 7)], {5: 9}), [{5}], [7], [63])
     check("row 23: (0,1), crews at depot 0 only", e.list(rolled(PAIR, {0: 9})), e.plan([{0, 1}], [12]), 23)
     check("row 23: (0,1), crews at depot 1 only", e.list(rolled(PAIR, {1: 9})), e.plan([{0, 1}], [12]), 23)
-    say("A depot with crews that no site names is in no group.")
-    known(e, "(0,1) of 12, nine crews at every other depot", rolled(PAIR, {0: 1, 1: 1}, 9), [{0, 1}], [12], [12])
-    check("row 13: depot 2 in a group", e.list(rolled(PAIR, {0: 1, 1: 1, 2: 1})), e.plan([{0, 1}, {2}], [12]), 13)
-    check("no sites and a roll of ones", e.list(Sites([], ONES)), e.plan([], []), 0)
     say("A roll with 1 for each depot that a site names and 0 for every other: the same plans as without one.")
     for words, sites in (("T", [(0, 1, 10)]), ("nine sites", NINE), ("own 0 of 7, (0,1) of 6", SEVEN), ("no sites", [])):
         groups = groups_of(sites)
         for ss in (shares_of(sites, groups), placed(sites, groups), [0] * len(sites)):
             row = first_row(e.list(sites), e.plan(groups, ss))
             check(f"{words}, without a roll: {'passes' if row == 0 else 'row %d' % row}", e.list(sites), e.plan(groups, ss), row)
-            check("and with one", e.list(listed_roll(sites)), e.plan(groups, ss), row)
+            check("and with one", e.list(named_roll(sites)), e.plan(groups, ss), row)
+    part_isolated()
     say("Rows of a list with a roll.")
     pair, P = e.list(PAIR), e.plan([{0, 1}], [36])
     good = ROLL_MARK + crews_roll({0: 3, 1: 1})
@@ -956,7 +1006,7 @@ def part_crews():
     full = e.list(rolled(PAIR, {0: 3, 1: 1}))
     convert("row 21", "downgrade", 21, (full,), 100)
     convert("with its plan", "downgrade", 21, (full, P), 100, 100)
-    convert("a roll of ones too", "downgrade", 21, (e.list(listed_roll(PAIR)),), 100)
+    convert("a roll of ones too", "downgrade", 21, (e.list(named_roll(PAIR)),), 100)
     convert("rows 22 and 21", "downgrade", 22, (e.list(rolled(PAIR, {0: 10, 1: 1})),), 100)
     convert("rows 23 and 21", "downgrade", 23, (e.list(rolled(PAIR, {0: 1})),), 100)
     convert("rows 21 and 7", "downgrade", 21, (full, b""), 100, 100)
@@ -968,6 +1018,94 @@ def part_crews():
 def roll_out(words, sites):
     """The list that is held, written out with its roll."""
     list_out(words, book.e.list(sites))
+
+
+def part_desk_isolated():
+    e = E2
+    say("Depots with crews that no site names, on a desk: left out, one of them left out, each by itself, joined to the group before, and in front of it; then as the last group.")
+    table(3)
+    sites = rolled(PAIR, {0: 3, 1: 1, 5: 9, 63: 2})
+    ask("load", e.list(sites), answer="done")
+    roll_out("the list with its roll", sites)
+    for groups, row in (([{0, 1}], 13), ([{0, 1}, {5}], 13), ([{0, 1}, {2, 5, 63}], 13), ([{0, 1}, {5}, {63}], 16), ([{0, 1, 5, 63}], 15), ([{0, 1, 63}, {5}], 15), ([{5, 63}, {0, 1}], 16)):
+        ask("propose", e.plan(groups, placed(sites, groups) if row == 15 else [36]), answer=f"refused {row}")
+    ask("depot", 5, answer="refused 17")
+    plan = e.plan([{0, 1}, {5, 63}], [36])
+    ask("propose", plan, answer="done")
+
+    def figures():
+        ask("share", 0, answer="share 36 48")
+        ask("share", 1, answer="refused 18")
+        ask("depot", 0, answer="depot 12 4")
+        ask("depot", 5, answer="depot 0 11")
+        ask("depot", 63, answer="depot 0 11")
+        for d in (2, 62, 64):
+            ask("depot", d, answer="refused 19")
+        ask("difference", 0, 5, answer="difference 132 44")
+        ask("difference", 63, 1, answer="difference -132 44")
+        ask("difference", 5, 63, answer="difference 0 121")
+        ask("difference", 5, 2, answer="refused 19")
+        at_least(0, 0, 1, 5, 63)
+        at_least(1, 0, 1)
+        at_least(3, 0, 1)
+        at_least(4)
+        at_least(2 ** 32 - 1)
+        ask("written", 34, answer="refused 20")
+        ask("written", 35, answer=f"length 35 {text(plan)}")
+
+    figures()
+    say("The list and the plan that are written out, in a desk with one place.")
+    table(1)
+    held(sites, plan)
+    figures()
+    roll_out("the same list", sites)
+    say("A site for one of them, and then for the other: with depots 0 and 1 the first has 102/13, and the second has 0/2 and then 1/2.")
+    table(3)
+    held(sites, plan)
+    ask("add", 5, 2, 90, answer="refused 23")
+    ask("depot", 5, answer="depot 0 11")
+    ask("add", 5, 0, 90, answer="done")
+    ask("depot", 63, answer="refused 17")
+    ask("propose", e.plan([{0, 1, 5}], [54, 918]), answer="refused 13")
+    ask("propose", e.plan([{0, 1, 5}, {63}], [54, 918]), answer="done")
+    ask("depot", 5, answer="depot 102 13")
+    ask("depot", 63, answer="depot 0 2")
+    at_least(0, 0, 1, 5, 63)
+    at_least(7, 0, 1, 5)
+    ask("change", 0, 12, words="a change keeps the roll, and they stay listed", answer="done")
+    ask("propose", e.plan([{0, 1, 5}], [54, 918]), answer="refused 13")
+    ask("propose", e.plan([{0, 1, 5}, {63}], [54, 918]), answer="done")
+    ask("add", 63, 63, 1, answer="done")
+    ask("propose", e.plan([{0, 1, 5}, {63}], [54, 918, 2]), answer="done")
+    ask("depot", 63, answer="depot 1 2")
+    at_least(0, 0, 1, 5, 63)
+    at_least(1, 0, 1, 5)
+    again()
+    say("Without the roll they are not listed.")
+    ask("load", e.list(PAIR), answer="done")
+    ask("propose", e.plan([{0, 1}, {63}], [12]), answer="refused 13")
+    ask("propose", e.plan([{0, 1}], [12]), answer="done")
+    ask("depot", 63, answer="refused 19")
+    say("No sites and no places: all 64 depots, and one; 63 depots and one own site.")
+    for sites, groups in ((rolled([], {}, 9), [ALL]), (rolled([], {}, 1), [ALL]), (rolled([], {9: 4}), [{9}]), (rolled([own(63, 7)], {}, 1), [{63}, ALL - {63}]), (rolled([own(0, 7)], {}, 9), [{0}, ALL - {0}])):
+        counted[key_of(sites)] = groups
+        table(len(sites))
+        ask("load", e.list(sites), answer="done")
+        shares = [w * size(sites, {d}) for d, _, w in sites]
+        ask("propose", e.plan(groups[:-1], shares), answer="refused 13")
+        ask("propose", e.plan(groups, shares), answer="done")
+        last, q = max(groups[-1]), size(sites, groups[-1])
+        ask("depot", last, answer=f"depot 0 {q}")
+        ask("difference", last, min(groups[-1]), answer=f"difference 0 {q * q}")
+        ask("depot", 0)
+        ask("depot", 63)
+        at_least(0, *set().union(*groups))
+        ask("atleast", 1)
+        ask("atleast", 7)
+        ask("share", 0)
+        ask("written", e.plan_length(len(groups), len(sites)), answer="length")
+        ask("add", last, last, 1, answer="refused 2")
+        again()
 
 
 def part_desk_crews():
@@ -1009,10 +1147,11 @@ def part_desk_crews():
     ask("load", e.list(PAIR), words="a load without a roll leaves none", answer="done")
     roll_out("no roll", PAIR)
     ask("add", 0, 2, 5, answer="done")
-    ask("load", e.list(listed_roll(PAIR)), words="a roll of ones is written out, the lack of one is not", answer="done")
-    roll_out("a roll of ones", listed_roll(PAIR))
+    ask("load", e.list(named_roll(PAIR)), words="a roll of ones is written out, the lack of one is not", answer="done")
+    roll_out("a roll of ones", named_roll(PAIR))
     ask("propose", e.plan([{0, 1}], [12]), answer="done")
     ask("depot", 0, answer="depot 12 2")
+    ask("depot", 2, answer="refused 19")
     say("Depots ranked by litres per crew.")
     sites = rolled([own(0, 9), own(1, 8), (0, 2, 2), own(3, 4)], {0: 9, 1: 2, 2: 1, 3: 1})
     ask("load", e.list(sites), answer="done")
@@ -1020,6 +1159,7 @@ def part_desk_crews():
     ask("propose", e.plan(groups, shares_of(book.sites, groups)), answer="done")
     ask_all(5)
     again()
+    part_desk_isolated()
     say("The full list with a roll: 512 sites, nine crews each.")
     table(512)
     full = Sites(e.LARGE, crews_roll({}, 9))
@@ -1118,9 +1258,13 @@ def ask_all(depots):
         ask("depot", a)
         for b in range(depots) if book.e is E1 else (0, a, depots - 1):
             ask("difference", a, b)
+    others = [d for d in listed(book.sites) if d >= depots]
+    for d in others:
+        ask("depot", d)
+        ask("difference", 0, d)
     for mark in marks():
         ask("atleast", mark)
-    ask("written", book.e.plan_length(depots, len(book.sites)))
+    ask("written", book.e.plan_length(depots + bool(others), len(book.sites)))
     ask("list", len(book.e.list(book.sites)))
 
 
@@ -1906,14 +2050,20 @@ def near_miss(e, draw, sites, groups, shares):
     return e.plan(groups, shares)
 
 
+def drawn_depot(draw, depots):
+    """A depot below the number, or where the list that is held has a roll any listed one."""
+    all_listed = listed(book.sites) if roll_of(book.sites) else []
+    return all_listed[draw(len(all_listed))] if all_listed and draw(2) else draw(depots)
+
+
 def part_histories(first, histories, least, over=False, rolls=False):
     """At least so many proposals become the held plan. Where `over` is true, desks go over to edition 2 on the way. Where `rolls` is true, two lists of three that are loaded into a desk of edition 2 have one."""
     say("Histories: calls drawn by a fixed rule, over at most 6 depots. Proposals are true, true of an earlier list, near misses, and the same again."
         + (" Desks of edition 1 go over to edition 2 at any point, or try to with too few places." if over else ""))
     if rolls:
-        say("Of the lists that are loaded in edition 2 some have a roll, and some of these a byte above 9 or a named depot without crews.")
+        say("Of the lists that are loaded in edition 2 some have a roll, and some of these a byte above 9 or a named depot without crews, or depots with crews that no site names.")
     draw, done, steps = drawn((11 if over else 3 if first is E1 else 7) + (12 if rolls else 0)), 0, {"done": 0, "refused 2": 0, "bad line": 0}
-    seen = set()
+    seen, isolated = set(), 0
     for k in range(histories):
         say(f"history {k}")
         depots, few = 1 + draw(6), (1, 2, 6, None)[draw(4)]
@@ -1938,10 +2088,11 @@ def part_histories(first, histories, least, over=False, rolls=False):
                 ask("change", draw(n + 1), draw(most + 1))
             elif kind < 4:
                 ask("add", draw(depots), draw(depots) if draw(20) else 64, draw(most + 1) if draw(4) else 1)
-            elif kind < 8 and n:
+            elif kind < 8 and listed(book.sites):
                 groups = definition(book.sites)
                 plans.append(e.plan(groups, (shares_of, turned)[draw(2)](book.sites, groups)))
                 done += ask("propose", plans[-1]) == "done"
+                isolated += set(listed(book.sites)) != named(book.sites)
             elif kind < 11 and n:
                 groups = definition(book.sites)
                 done += ask("propose", near_miss(e, draw, book.sites, groups, (shares_of, turned)[draw(2)](book.sites, groups))) == "done"
@@ -1952,9 +2103,9 @@ def part_histories(first, histories, least, over=False, rolls=False):
             elif kind < 15:
                 ask("share", draw(n + 1))
             elif kind < 17:
-                ask("depot", draw(depots + 1))
+                ask("depot", drawn_depot(draw, depots + 1))
             elif kind < 19:
-                ask("difference", draw(depots), draw(depots))
+                ask("difference", draw(depots), drawn_depot(draw, depots))
             elif kind < 20:
                 ask("written", draw(2) * 60 + draw(60))
             elif kind < 22:
@@ -1964,12 +2115,13 @@ def part_histories(first, histories, least, over=False, rolls=False):
                 near = marks()
                 ask("atleast", near[draw(len(near))] if draw(8) else draw(2) * 65536 + draw(most + 1))
         e = book.e
-        if k % 4 and book.sites:
+        if k % 4 and listed(book.sites):
             groups = definition(book.sites)
             ask("propose", e.plan(groups, turned(book.sites, groups)), answer="done")
         ask_all(depots)
         again()
     assert done >= least and (not over or min(steps.values()) >= (2 if rolls else 8)), (done, steps)
+    assert not rolls or isolated >= (5 if over else 8), (over, isolated, done)
     assert not rolls or over or {x[0] for x in seen} >= {"done", "refused 22", "refused 23"} and {x[2] for x in seen} == {True, False}, seen
 
 
@@ -2271,12 +2423,20 @@ def part_make(e):
         make(words, e.list(sites), len(plan) + 3, 0, plan)
     if e is E2:
         for words, sites in (("(0,1) of 12, three crews and one", rolled(PAIR, {0: 3, 1: 1})), ("nine, nine and one", rolled(PAIR + [own(2, 5)], {0: 9, 1: 9, 2: 1})),
-                             ("one group of one crew and two", rolled([own(0, 4), own(1, 8)], {0: 1, 1: 2})), ("a roll of ones", listed_roll(PAIR)),
-                             ("crews that no site names", rolled([own(5, 7)], {5: 2, 6: 9})), ("no sites and a roll", Sites([], ONES))):
+                             ("one group of one crew and two", rolled([own(0, 4), own(1, 8)], {0: 1, 1: 2})), ("a roll of ones", named_roll(PAIR)),
+                             ("crews at a depot that no site names", rolled([own(5, 7)], {5: 2, 6: 9})), ("at two such depots", rolled(PAIR, {0: 3, 1: 1, 5: 9, 63: 2})),
+                             ("at depot 0 alone of these", rolled([own(1, 12), own(2, 1)], {0: 9, 1: 1, 2: 9})), ("no sites, crews at three depots", rolled([], {0: 1, 7: 9, 63: 3})),
+                             ("no sites and no crews", rolled([], {}))):
             groups = groups_of(sites)
             plan = e.plan(groups, shares_of(sites, groups))
             assert first_row(e.list(sites), plan) == 0
             make(words, e.list(sites), len(plan) + 3, 0, plan)
+        for words, sites, groups in (("no sites and a roll of ones", Sites([], ONES), [ALL]), ("no sites, nine crews each", rolled([], {}, 9), [ALL]),
+                                     ("own 63 of 7, a roll of ones", Sites([own(63, 7)], ONES), [{63}, ALL - {63}]), ("own 0 of 7, nine crews each", rolled([own(0, 7)], {}, 9), [{0}, ALL - {0}])):
+            plan = e.plan(groups, shares_of(sites, groups))
+            assert first_row(e.list(sites), plan) == 0
+            make(words, e.list(sites), len(plan), 0, plan)
+            make("row 20: one byte less", e.list(sites), len(plan) - 1, 20)
         make("row 22", e.list(rolled(PAIR, {0: 10, 1: 1})), p, 22)
         make("row 23", e.list(rolled(PAIR, {0: 3})), p, 23)
         make("rows 23 and 20: the earlier", e.list(rolled(PAIR, {0: 3})), 0, 23)
@@ -2331,7 +2491,7 @@ def main():
     part_histories(E1, 20, 100)
     part_histories(E2, 3, 15)
     part_histories(E1, 12, 40, over=True)
-    part_histories(E2, 12, 40, rolls=True)
+    part_histories(E2, 16, 60, rolls=True)
     part_histories(E1, 8, 20, over=True, rolls=True)
     part_make(E1)
     part_make(E2)

@@ -85,8 +85,8 @@ impl Crews for &Roll {
     }
 }
 
-/// Row 22 or 23 of a roll, where sites name these depots.
-pub(crate) fn roll_refusal(roll: &Roll, listed: u64) -> Result<(), i64> {
+/// The depots with crews in a roll, where sites name these depots, or row 22 or 23.
+pub(crate) fn enrolled(roll: &Roll, named: u64) -> Result<u64, i64> {
     let (mut above, mut crewed) = (false, 0u64);
     for (d, &crews) in roll.iter().enumerate() {
         above |= crews > 9;
@@ -95,10 +95,10 @@ pub(crate) fn roll_refusal(roll: &Roll, listed: u64) -> Result<(), i64> {
     if above {
         return Err(22);
     }
-    if listed & !crewed != 0 {
+    if named & !crewed != 0 {
         return Err(23);
     }
-    Ok(())
+    Ok(crewed)
 }
 
 /// Whether a list is read as one of edition 2.
@@ -127,12 +127,12 @@ pub(crate) fn read<const P: usize, const R: usize>(list: &[u8], most: usize) -> 
     let (front, behind) = list.split_at_checked(4 + R * count).filter(|parts| taken(parts.1)).ok_or(3)?;
     let (sites, _) = front[4..].as_chunks();
     let roll = behind.last_chunk::<64>();
-    let (mut marks, mut depots, mut dry, mut listed) = (0, 0, false, 0);
+    let (mut marks, mut depots, mut dry, mut named) = (0, 0, false, 0);
     for r in sites {
         marks |= half(r, 0) ^ u16::from_le_bytes(edition(P).site);
         depots |= r[2] | r[3];
         dry |= number(&r[4..]) == 0;
-        listed |= 1u64 << (r[2] & 63) | 1u64 << (r[3] & 63);
+        named |= 1u64 << (r[2] & 63) | 1u64 << (r[3] & 63);
     }
     if marks != 0 || roll.is_some() && behind[..2] != ROLL_MARK {
         return Err(4);
@@ -143,9 +143,7 @@ pub(crate) fn read<const P: usize, const R: usize>(list: &[u8], most: usize) -> 
     if dry {
         return Err(6);
     }
-    if let Some(roll) = roll {
-        roll_refusal(roll, listed)?;
-    }
+    let listed = roll.map_or(Ok(named), |roll| enrolled(roll, named))?;
     Ok(Read { sites, listed, roll })
 }
 

@@ -3,7 +3,7 @@
 
 use engine_tests::records::{Roll, ROLL_BYTES, ROLL_MARK};
 
-use crate::hand::{edition, number, plan_refusal, read, records, roll_refusal, Crews, OneEach, Read, GROUP};
+use crate::hand::{edition, enrolled, number, plan_refusal, read, records, Crews, OneEach, Read, GROUP};
 
 /// Row 0.
 const CORRUPT: i64 = -256;
@@ -85,16 +85,16 @@ fn held<'a, const P: usize, const S: usize>(store: &'a [u8], table: &'a [u8]) ->
         return Err(CORRUPT);
     }
     let sites = &places[..count as usize];
-    let (mut depots, mut dry, mut listed) = (0, false, 0);
+    let (mut depots, mut dry, mut named) = (0, false, 0);
     for r in sites {
         depots |= r[0] | r[1];
         dry |= number(&r[2..]) == 0;
-        listed |= 1u64 << (r[0] & 63) | 1u64 << (r[1] & 63);
+        named |= 1u64 << (r[0] & 63) | 1u64 << (r[1] & 63);
     }
     if depots > 63 || dry {
         return Err(CORRUPT);
     }
-    let roll = roll_held::<S>(store, listed)?;
+    let (roll, listed) = roll_held::<S>(store, named)?;
     let plan = match (word(store, HELD), roll) {
         (0, _) => None,
         (1, None) => Some(plan_held(store, sites, listed, OneEach)?),
@@ -104,14 +104,14 @@ fn held<'a, const P: usize, const S: usize>(store: &'a [u8], table: &'a [u8]) ->
     Ok(Held { sites, listed, roll, plan })
 }
 
-/// The roll held or none, or row 0. A store of edition 1 has none.
-fn roll_held<const S: usize>(store: &[u8], listed: u64) -> Result<Option<&Roll>, i64> {
+/// The roll held or none, and the listed depots, where sites name these depots; or row 0. A store of edition 1 has none.
+fn roll_held<const S: usize>(store: &[u8], named: u64) -> Result<(Option<&Roll>, u64), i64> {
     if S == 4 {
-        return Ok(None);
+        return Ok((None, named));
     }
     match (word(store, shares_end(S)), store.last_chunk()) {
-        (0, _) => Ok(None),
-        (1, Some(roll)) if roll_refusal(roll, listed).is_ok() => Ok(Some(roll)),
+        (0, _) => Ok((None, named)),
+        (1, Some(roll)) => enrolled(roll, named).map(|listed| (Some(roll), listed)).map_err(|_| CORRUPT),
         _ => Err(CORRUPT),
     }
 }

@@ -366,12 +366,12 @@ fn damage(rng: &mut Rng, desk: &mut Desk) {
 
 fn random_call(rng: &mut Rng, base: &Base) -> Call {
     let near = base.list.len() + 2;
-    let named = members(listed(&base.list));
+    let depots = members(listed(&base.list));
     let depot = |rng: &mut Rng| match rng.below(20) {
         0 => rng.byte(),
         1 => rng.below(64) as u8,
-        _ if named.is_empty() => 0,
-        _ => *rng.pick(&named) as u8,
+        _ if depots.is_empty() => 0,
+        _ => *rng.pick(&depots) as u8,
     };
     let litres = |rng: &mut Rng| *rng.pick(&[0, 1, 2, 7, 100, 65_535, base.edition.most()]);
     // around the W/q of a group, or anywhere

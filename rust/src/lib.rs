@@ -94,6 +94,13 @@
 //! let mut file = [0; sulgheti::LIST2_MAX];
 //! assert_eq!(store.list(&mut file), Ok(78));
 //! assert_eq!(file[..78], list);
+//! // Depot 5 has two crews and no site: it is listed too, in the last group, with W 0.
+//! list[14 + 5] = 2;
+//! let n = sulgheti::make(&list, &mut plan).unwrap();
+//! store.load(&list).unwrap();
+//! store.propose(&plan[..n]).unwrap();
+//! assert_eq!(store.depot(5), Ok((0, 2)));
+//! assert_eq!(store.at_least(0), Ok(0b100011));
 //! // More than 9 crews are refused. Edition 1 has no rolls.
 //! list[14] = 10;
 //! assert_eq!(store.load(&list), Err(sulgheti::Row(22)));
@@ -684,13 +691,13 @@ const TEXTS: [(&str, &str); 24] = [
     ("the plan's length is not 5 + 10 x groups + 6 x sites or, in edition 2, 5 + 10 x groups + 10 x sites", "it was cut off, something follows it, or a count is wrong"),
     ("a group does not begin with 47 52, or a share not with 53 48 or, in edition 2, 53 33", "a record is damaged: write the plan again"),
     ("a group is empty or meets an earlier one", "put each depot into one group, and leave empty groups out"),
-    ("the groups together are not the listed depots", "group every depot that a site names, and no other"),
+    ("the groups together are not the listed depots", "group every depot that a site names or that has crews in the roll, and no other"),
     ("a share is above w x q, an own site is not whole, or a depot of an earlier group has a share", "give shares in q-ths of a litre, q the crews of the later of the site's two groups, and all of the site to the depot in that group"),
     ("a depot's shares do not add up to its crews times its group's litres", "level the shares within the group, or make the plan anew"),
     ("litres per crew do not fall strictly from group to group", "the groups are wrong: make the plan anew"),
     ("no plan is held", "propose a plan that passes first; a load, a change or an added site drops the plan held"),
     ("the site number is not on the desk", "sites are counted from 0: load or add the site first"),
-    ("no site names the depot", "ask for a listed depot"),
+    ("no site names the depot, and it has no crews in a roll", "ask for a listed depot"),
     ("a buffer is shorter than the plan or the list that is written into it", "lend 5 + 10 x groups + 6 x sites bytes for a plan, 4 + 6 x sites for a list (written in edition 2: 10 and 8 x sites, 66 more with a roll); 3,717 always suffice (edition 2: 5,765)"),
     ("a site's litres are outside 1 to 65,535 or the list has a roll, and the list is to go back to edition 1", "edition 1 has no such litres and no rolls: keep list and plan in edition 2"),
     ("the roll has more than 9 crews for a depot", "give each depot 0 to 9 crews"),

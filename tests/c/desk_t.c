@@ -1,6 +1,6 @@
 /* A desk with T: its list is written out, its plan is held, its figures are answered, and an added site drops it; the list goes into another desk and out again.
  * And a desk of edition 2 with a site of 70,000 litres, beside one of edition 1. And a desk of edition 1 that goes over to edition 2 with its plan.
- * And a desk with a roll: crews count, and it is kept and written out with the list. */
+ * And a desk with a roll: crews count, a depot with crews and no site is answered, and it is kept and written out with the list. */
 #include <string.h>
 
 #include "sulgheti.h"
@@ -174,10 +174,12 @@ static int goes_over(void) {
     return memcmp(again, store, sizeof store) == 0 && table[2] == 11 ? 0 : 35;
 }
 
-/* A roll: three crews at depot 0, one at depot 1, nine at depot 5, which no site names. */
+/* A roll: three crews at depot 0, one at depot 1, nine at depot 5, which no site names: it is the last group. */
 static int crews(void) {
     uint8_t list[12 + 66] = {0x4C, 0x32, 1, 0, 0x53, 0x32, 0, 1, 12, 0, 0, 0, 0x44, 0x52, 3, 1, 0, 0, 0, 9};
-    const uint8_t plan[] = {0x50, 0x32, 1, 1, 0, 0x47, 0x52, 3, 0, 0, 0, 0, 0, 0, 0, 0x53, 0x33, 36, 0, 0, 0, 0, 0, 0, 0};
+    const uint8_t plan[] = {0x50, 0x32, 2, 1, 0, 0x47, 0x52, 3, 0, 0, 0, 0, 0, 0, 0, 0x47, 0x52, 32, 0, 0, 0, 0, 0, 0, 0, 0x53, 0x33, 36, 0, 0, 0, 0, 0, 0, 0};
+    /* without it */
+    const uint8_t fewer[] = {0x50, 0x32, 1, 1, 0, 0x47, 0x52, 3, 0, 0, 0, 0, 0, 0, 0, 0x53, 0x33, 36, 0, 0, 0, 0, 0, 0, 0};
     uint8_t store[SULGHETI_STORE2_BYTES], table[3 * SULGHETI_PLACE2_BYTES], out[SULGHETI_LIST2_MAX];
     uint64_t x = 0, y = 0, set = 99;
     int64_t d = 1;
@@ -185,13 +187,17 @@ static int crews(void) {
     if (sulgheti_make(list, sizeof list, out, sizeof plan) != (int64_t)sizeof plan || memcmp(out, plan, sizeof plan) != 0) return 1;
     if (sulgheti_make(list, sizeof list, out, sizeof plan - 1) != -20 || sulgheti_check(list, sizeof list, plan, sizeof plan) != 0) return 2;
     if (sulgheti_fresh2(store, sizeof store) != 0 || sulgheti_load(store, sizeof store, table, sizeof table, list, sizeof list) != 0) return 3;
+    if (sulgheti_propose(store, sizeof store, table, sizeof table, fewer, sizeof fewer) != -13 || sulgheti_check(list, sizeof list, fewer, sizeof fewer) != -13) return 27;
     if (sulgheti_propose(store, sizeof store, table, sizeof table, plan, sizeof plan) != 0) return 4;
     if (sulgheti_depot(store, sizeof store, table, sizeof table, 0, &x, &y) != 0 || x != 12 || y != 4) return 5;
     if (sulgheti_share(store, sizeof store, table, sizeof table, 0, &x, &y) != 0 || x != 36 || y != 48) return 6;
     if (sulgheti_difference(store, sizeof store, table, sizeof table, 0, 1, &d, &y) != 0 || d != 0 || y != 16) return 7;
     if (sulgheti_at_least(store, sizeof store, table, sizeof table, 3, &set) != 0 || set != 3) return 8;
     if (sulgheti_at_least(store, sizeof store, table, sizeof table, 4, &set) != 0 || set != 0) return 9;
-    if (sulgheti_depot(store, sizeof store, table, sizeof table, 5, &x, &y) != -19) return 10;
+    if (sulgheti_depot(store, sizeof store, table, sizeof table, 5, &x, &y) != 0 || x != 0 || y != 9) return 10;
+    if (sulgheti_depot(store, sizeof store, table, sizeof table, 6, &x, &y) != -19) return 28;
+    if (sulgheti_difference(store, sizeof store, table, sizeof table, 5, 0, &d, &y) != 0 || d != -108 || y != 36) return 29;
+    if (sulgheti_at_least(store, sizeof store, table, sizeof table, 0, &set) != 0 || set != 35) return 30;
     /* a depot without crews; the plan is still held */
     if (sulgheti_add2(store, sizeof store, table, sizeof table, 0, 2, 1) != -23 || sulgheti_add2(store, sizeof store, table, sizeof table, 2, 2, 0) != -6) return 11;
     if (sulgheti_depot(store, sizeof store, table, sizeof table, 1, &x, &y) != 0 || x != 12 || y != 4) return 12;

@@ -1,6 +1,7 @@
 //! The plain book of document 01: a list, a plan or none, and the rows in the paper's order; before them the
 //! store's length, which is no row. With document 02's question a, the depots at or over a mark, its call b, the list
-//! written out, its editions (c), its step of a desk of edition 1 to edition 2 (e), and its rolls (g).
+//! written out, its editions (c), its step of a desk of edition 1 to edition 2 (e), its rolls (g), and the depots with
+//! crews that no site names (h).
 
 use crate::decompose::by_cuts;
 use crate::records::{list_bytes, listed, number, plan_bytes, Edition, List, Plan, Roll, Site, EDITIONS, ONE, TWO};

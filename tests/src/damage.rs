@@ -1,6 +1,6 @@
 //! Damage to a list and a plan, by row: each function spoils what one row is about.
 
-use crate::records::{listed, members, plan_bytes, Edition, List, Plan, Site, EDITIONS, ROLL_BYTES};
+use crate::records::{listed, members, named, plan_bytes, Edition, List, Plan, Site, EDITIONS, ROLL_BYTES};
 use crate::rng::Rng;
 
 /// A list and a plan laid out for it in an edition, as values. Offsets of the bytes follow from their counts.
@@ -162,7 +162,7 @@ pub fn spoil(rng: &mut Rng, row: u8, base: &Base, list: &mut Vec<u8>, plan: &mut
             }
         }
         22 | 23 => {
-            let named = members(listed(&base.list));
+            let named = members(named(&base.list));
             if base.list.roll.is_none() || row == 23 && named.is_empty() {
                 return false;
             }
@@ -217,7 +217,7 @@ pub fn spoil(rng: &mut Rng, row: u8, base: &Base, list: &mut Vec<u8>, plan: &mut
             if groups == 0 {
                 return false;
             }
-            let (at, mark) = if rng.percent(50) {
+            let (at, mark) = if sites == 0 || rng.percent(50) {
                 (base.group_at(rng.below(groups)), e.share)
             } else {
                 (base.share_at(rng.below(sites)), other.share)

@@ -3,7 +3,7 @@
 use std::collections::BTreeMap;
 
 use crate::flow::Graph;
-use crate::records::{listed, List, Site};
+use crate::records::{listed, named, List, Site};
 
 /// "The litres of a set, given the depots already grouped, are those of all sites that touch the set
 /// and whose depots all lie in the set or among the grouped ones. A site counts once."
@@ -149,7 +149,7 @@ pub fn shares(list: &List, groups: &[u64]) -> (Vec<u64>, bool) {
 /// The innermost core: what is left when the depot with the fewest litres to the others that are left
 /// is taken away again and again, at the point where that fewest was greatest. (Not a group in general.)
 pub fn innermost_core(sites: &[Site]) -> u64 {
-    let mut set = listed(sites);
+    let mut set = named(sites);
     let (mut core, mut greatest) = (set, 0);
     while set != 0 {
         let degree = |d: u32| -> u64 {

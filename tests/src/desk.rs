@@ -6,9 +6,10 @@ use crate::damage::{list_rows, reordered, spoil, Base};
 use crate::families::{extent, rolled, scattered, FAMILIES};
 use crate::known;
 use crate::lent::{self, Lent, Reply};
-use crate::near::{miss, next_season};
+use crate::near::{misplaced, miss, next_season};
 use crate::records::{
-    list_bytes, no_plan, plan_bytes, roll_bytes, site, Edition, List, Plan, Site, EDITIONS, ONE, ROLL_BYTES, TWO,
+    isolated, list_bytes, listed, members, no_plan, plan_bytes, roll_bytes, site, Edition, List, Plan, Site, EDITIONS,
+    ONE, ROLL_BYTES, TWO,
 };
 use crate::run::Run;
 
@@ -247,6 +248,10 @@ fn proposed(run: &mut Run, book: &Book, old: &mut Vec<u8>) -> Vec<u8> {
     let own = run.plan(&book.list);
     let bytes = plan_bytes(e, &own);
     *old = bytes.clone();
+    let near = misplaced(&book.list, &own);
+    if !near.is_empty() && run.rng.percent(20) {
+        return plan_bytes(e, &run.rng.pick(&near).1);
+    }
     match run.rng.below(10) {
         0..=3 => {
             let mut made = vec![0; bytes.len()];
@@ -299,7 +304,13 @@ pub fn mark(run: &mut Run, book: &Book) -> u32 {
 pub fn any_call(run: &mut Run, book: &Book, old: &mut Vec<u8>, most: usize, depots: usize) -> Call {
     let n = book.list.len();
     let near = n + 2;
-    let depot = |run: &mut Run| if run.rng.percent(4) { run.rng.byte() } else { run.rng.below(depots + 1) as u8 };
+    let (all, alone) = (members(listed(&book.list)), members(isolated(&book.list)));
+    let depot = |run: &mut Run| match run.rng.below(100) {
+        0..=3 => run.rng.byte(),
+        4..=28 if !all.is_empty() => *run.rng.pick(&all) as u8,
+        29..=48 if !alone.is_empty() => *run.rng.pick(&alone) as u8,
+        _ => run.rng.below(depots + 1) as u8,
+    };
     let e = book.edition;
     let litres = |run: &mut Run| {
         let figure = if run.rng.percent(15) { 0 } else { *run.rng.pick(&[1, 2, 7, 65_535, 65_536, 70_000, u32::MAX]) };
@@ -469,6 +480,7 @@ pub fn histories(run: &mut Run, calls: usize) -> Seen {
         lists(run, e, &mut seen);
     }
     rolls(run, &mut seen);
+    no_site(run, &mut seen);
     beside(run, &mut seen);
     seen
 }
@@ -541,10 +553,16 @@ fn marks(run: &mut Run, e: Edition, seen: &mut Seen) {
         lists.extend([
             // 12/4: 4 x 2^30 is 0 in 32 bits
             (crewed(vec![site(0, 1, 12)], &[(0, 3), (1, 1)]), vec![(0, 3), (3, 3), (4, 0), (6, 0), (1 << 30, 0)]),
-            // 10/19; 8/9 and 4/9; 18/9 and 17/9
+            // 10/19; 8/9, 4/9 and 0/1; 18/9 and 17/9
             (crewed(vec![site(0, 1, 9), site(1, 2, 1)], &[(0, 9), (1, 9), (2, 1)]), vec![(0, 7), (1, 0)]),
-            (crewed(vec![own(0, 8), own(1, 4)], &[(0, 9), (1, 9), (2, 1)]), vec![(0, 3), (1, 0)]),
+            (crewed(vec![own(0, 8), own(1, 4)], &[(0, 9), (1, 9), (2, 1)]), vec![(0, 7), (1, 0)]),
             (crewed(vec![own(0, 18), own(1, 17)], &[(0, 9), (1, 9)]), vec![(0, 3), (1, 3), (2, 1), (3, 0)]),
+            // no litres: all depots for a mark of 0, and none of these above it
+            (crewed(vec![], &[(0, 1), (63, 9)]), vec![(0, 1 | 1 << 63), (1, 0), (65_536, 0), (1 << 31, 0), (most, 0)]),
+            (crewed(vec![own(1, 9)], &[(0, 9), (1, 9), (2, 1)]), vec![(0, 7), (1, 2), (2, 0), (most, 0)]),
+            (crewed(vec![own(1, 1)], &[(0, 9), (1, 9), (2, 1)]), vec![(0, 7), (1, 0), (most, 0)]),
+            (List { sites: vec![], roll: Some([9; 64]) }, vec![(0, all), (1, 0), (most, 0)]),
+            (List { sites: vec![own(63, most)], roll: Some([1; 64]) }, vec![(0, all), (1, 1 << 63), (most, 1 << 63)]),
             // nine crews at each depot, and 8 x the most litres for them
             (
                 List { sites: known::own_sites(most), roll: Some([9; 64]) },
@@ -1022,24 +1040,25 @@ fn rolls(run: &mut Run, seen: &mut Seen) {
     // without a roll any depot may be named
     expect(run, &mut desk, &mut book, &Call::Add(63, 7, Litres::of(e, 1)), done(), seen);
     kept(run, &desk, 0, &[0; 64]);
-    let plan = plan_bytes(e, &Plan { groups: vec![3], shares: vec![30] });
+    let plan = plan_bytes(e, &Plan { groups: vec![3, 32], shares: vec![30] });
     let steps: Vec<(Call, Result<Told, Refusal>)> = vec![
         (Call::Load(list.clone()), done()),
         (Call::Depot(0), refused(17)),
         (Call::List(list.len()), Ok(Told::Wrote(list.clone()))),
         (Call::List(bare.len()), refused(20)),
         // the plan that passes without the roll, and the one that passes with it
-        (Call::Propose(plain.clone()), refused(15)),
+        (Call::Propose(plain.clone()), refused(13)),
         (Call::Propose(plan.clone()), done()),
         (Call::Share(0), Ok(Told::Figures(30, 40))),
         (Call::Depot(0), Ok(Told::Figures(10, 4))),
         (Call::Depot(1), Ok(Told::Figures(10, 4))),
-        // crews and no site: not listed
-        (Call::Depot(5), refused(19)),
+        // crews and no site; neither
+        (Call::Depot(5), Ok(Told::Figures(0, 9))),
+        (Call::Depot(2), refused(19)),
         (Call::Difference(0, 1), Ok(Told::Difference(0, 16))),
         (Call::AtLeast(2), Ok(Told::Depots(3))),
         (Call::AtLeast(3), Ok(Told::Depots(0))),
-        (Call::Written(25), Ok(Told::Wrote(plan.clone()))),
+        (Call::Written(35), Ok(Told::Wrote(plan.clone()))),
         // row 23 after rows 2, 5 and 6
         (Call::Add(0, 2, Litres::of(e, 1)), refused(23)),
         (Call::Add(2, 0, Litres::of(e, 1)), refused(23)),
@@ -1082,6 +1101,135 @@ fn rolls(run: &mut Run, seen: &mut Seen) {
     expect(run, &mut desk, &mut book, &Call::Propose(plan_bytes(e, &no_plan())), done(), seen);
     expect(run, &mut desk, &mut book, &Call::Add(0, 0, Litres::of(e, 1)), refused(23), seen);
     expect(run, &mut desk, &mut book, &Call::List(none.len()), Ok(Told::Wrote(none)), seen);
+}
+
+/// Depots with crews that no site names: they are the last group, and questions about them are answered; a site that is
+/// added takes one of them out; without crews a depot is not listed. What is written out is loaded and proposed again.
+fn no_site(run: &mut Run, seen: &mut Seen) {
+    let e = TWO;
+    let litres = |figure| Litres::of(e, figure);
+    let done = || Ok(Told::Done);
+    let refused = |row| Err(Refusal::Row(row));
+    let plan =
+        |groups: &[u64], shares: &[u64]| plan_bytes(e, &Plan { groups: groups.to_vec(), shares: shares.to_vec() });
+    let loaded =
+        |sites: Vec<Site>, crews: &[(usize, u8)]| list_bytes(e, &List { sites, roll: Some(known::roll(crews)) });
+    let crews = [(0, 3), (1, 1), (5, 9), (63, 2)];
+    let list = loaded(vec![site(0, 1, 10)], &crews);
+    let true_plan = plan(&[3, 1 << 5 | 1 << 63], &[30]);
+    let asked = vec![
+        (Call::Depot(0), Ok(Told::Figures(10, 4))),
+        (Call::Depot(5), Ok(Told::Figures(0, 11))),
+        (Call::Depot(63), Ok(Told::Figures(0, 11))),
+        (Call::Depot(2), refused(19)),
+        (Call::Depot(62), refused(19)),
+        (Call::Depot(64), refused(19)),
+        (Call::Difference(0, 5), Ok(Told::Difference(110, 44))),
+        (Call::Difference(63, 1), Ok(Told::Difference(-110, 44))),
+        (Call::Difference(5, 63), Ok(Told::Difference(0, 121))),
+        (Call::Difference(5, 2), refused(19)),
+        (Call::Difference(2, 5), refused(19)),
+        (Call::AtLeast(0), Ok(Told::Depots(3 | 1 << 5 | 1 << 63))),
+        (Call::AtLeast(1), Ok(Told::Depots(3))),
+        (Call::AtLeast(3), Ok(Told::Depots(0))),
+        (Call::Share(0), Ok(Told::Figures(30, 40))),
+        (Call::Share(1), refused(18)),
+        (Call::Written(35), Ok(Told::Wrote(true_plan.clone()))),
+        (Call::Written(34), refused(20)),
+        (Call::List(list.len()), Ok(Told::Wrote(list.clone()))),
+    ];
+    let added = loaded(vec![site(0, 1, 10), site(5, 0, 90)], &crews);
+    let steps: Vec<(Call, Result<Told, Refusal>)> = vec![
+        (Call::Load(list.clone()), done()),
+        (Call::Depot(5), refused(17)),
+        (Call::AtLeast(0), refused(17)),
+        // left out, one of them left out, each by itself, joined to the group before, and in front of it
+        (Call::Propose(plan(&[3], &[30])), refused(13)),
+        (Call::Propose(plan(&[3, 1 << 5], &[30])), refused(13)),
+        (Call::Propose(plan(&[3, 1 << 5 | 1 << 62 | 1 << 63], &[30])), refused(13)),
+        (Call::Propose(plan(&[3, 1 << 5, 1 << 63], &[30])), refused(16)),
+        (Call::Propose(plan(&[3, 1 << 63, 1 << 5], &[30])), refused(16)),
+        (Call::Propose(plan(&[3 | 1 << 5 | 1 << 63], &[30])), refused(15)),
+        (Call::Propose(plan(&[3 | 1 << 5, 1 << 63], &[30])), refused(15)),
+        (Call::Propose(plan(&[1 << 5 | 1 << 63, 3], &[30])), refused(16)),
+        (Call::Depot(5), refused(17)),
+        (Call::Propose(true_plan.clone()), done()),
+    ];
+    let behind: Vec<(Call, Result<Told, Refusal>)> = vec![
+        // a site for one of them, and then for the other: 100/13, then 0/2 and 1/2
+        (Call::Add(5, 2, litres(90)), refused(23)),
+        (Call::Add(5, 0, litres(90)), done()),
+        (Call::Depot(63), refused(17)),
+        (Call::List(added.len()), Ok(Told::Wrote(added))),
+        (Call::Propose(true_plan.clone()), refused(9)),
+        (Call::Propose(plan(&[35], &[30, 900])), refused(13)),
+        (Call::Propose(plan(&[35, 1 << 63], &[30, 900])), done()),
+        (Call::Depot(5), Ok(Told::Figures(100, 13))),
+        (Call::Depot(63), Ok(Told::Figures(0, 2))),
+        (Call::Difference(5, 63), Ok(Told::Difference(200, 26))),
+        (Call::AtLeast(0), Ok(Told::Depots(35 | 1 << 63))),
+        (Call::AtLeast(7), Ok(Told::Depots(35))),
+        (Call::AtLeast(8), Ok(Told::Depots(0))),
+        (Call::Change(0, litres(10)), done()),
+        (Call::Propose(plan(&[35, 1 << 63], &[30, 900])), done()),
+        (Call::Add(63, 63, litres(1)), done()),
+        (Call::Propose(plan(&[35, 1 << 63], &[30, 900, 2])), done()),
+        (Call::Depot(63), Ok(Told::Figures(1, 2))),
+        (Call::AtLeast(0), Ok(Told::Depots(35 | 1 << 63))),
+        (Call::AtLeast(1), Ok(Told::Depots(35))),
+        // without the roll they are not listed
+        (Call::Load(known::t(e).0), done()),
+        (Call::Propose(plan(&[3, 1 << 63], &[10])), refused(13)),
+        (Call::Propose(known::t(e).1), done()),
+        (Call::Depot(63), refused(19)),
+    ];
+    let (mut desk, mut book) = (Bytes::fresh(run, e, 3), Ok(Book::new(e, 3)));
+    for (next, wanted) in steps.iter().chain(&asked).chain(&behind) {
+        expect(run, &mut desk, &mut book, next, wanted.clone(), seen);
+    }
+    // what was written out, in a desk with one place
+    let (mut desk, mut book) = (Bytes::fresh(run, e, 1), Ok(Book::new(e, 1)));
+    for (next, wanted) in [(Call::Load(list.clone()), done()), (Call::Propose(true_plan), done())].iter().chain(&asked)
+    {
+        expect(run, &mut desk, &mut book, next, wanted.clone(), seen);
+    }
+    // no sites, and a table without places; all 64, and 63 of them; none
+    let all = u64::MAX;
+    let cases = [
+        (List { sites: vec![], roll: Some(known::roll(&[(9, 4)])) }, plan(&[1 << 9], &[]), 9, 4, [1 << 9, 0]),
+        (List { sites: vec![], roll: Some([9; 64]) }, plan(&[all], &[]), 63, 576, [all, 0]),
+        (List { sites: vec![], roll: Some([1; 64]) }, plan(&[all], &[]), 0, 64, [all, 0]),
+        (
+            List { sites: vec![own(63, 7)], roll: Some([1; 64]) },
+            plan(&[1 << 63, all >> 1], &[7]),
+            0,
+            63,
+            [all, 1 << 63],
+        ),
+        (List { sites: vec![own(0, 7)], roll: Some([9; 64]) }, plan(&[1, all << 1], &[63]), 63, 567, [all, 0]),
+    ];
+    for (list, plan, depot, crews, reached) in cases {
+        let places = list.len();
+        let (mut desk, mut book) = (Bytes::fresh(run, e, places), Ok(Book::new(e, places)));
+        let bytes = list_bytes(e, &list);
+        let steps = [
+            (Call::Load(bytes.clone()), done()),
+            (Call::Propose(plan.clone()), done()),
+            (Call::Depot(depot), Ok(Told::Figures(0, crews))),
+            (Call::Difference(depot, depot), Ok(Told::Difference(0, crews * crews))),
+            (Call::AtLeast(0), Ok(Told::Depots(reached[0]))),
+            (Call::AtLeast(1), Ok(Told::Depots(reached[1]))),
+            (Call::Share(places), refused(18)),
+            (Call::Written(plan.len()), Ok(Told::Wrote(plan.clone()))),
+            (Call::Written(plan.len() - 1), refused(20)),
+            (Call::List(bytes.len()), Ok(Told::Wrote(bytes))),
+            (Call::Add(depot, depot, litres(1)), refused(2)),
+            (Call::Depot(depot), Ok(Told::Figures(0, crews))),
+        ];
+        for (next, wanted) in steps {
+            expect(run, &mut desk, &mut book, &next, wanted, seen);
+        }
+    }
 }
 
 /// Any bytes beside no roll: nobody looks at them, a change, an added site and a proposal leave them, a load clears them.

@@ -1,6 +1,6 @@
 //! Families of lists, from small to the largest (512 sites, 64 depots).
 
-use crate::records::{listed, members, site, Edition, List, Roll, Site, ONE};
+use crate::records::{members, named, site, Edition, List, Roll, Site, ONE};
 use crate::rng::Rng;
 
 /// How large a list is to be. Litres run from 1 to `litres`; some families have up to the edition's most.
@@ -219,12 +219,13 @@ pub fn rolled(rng: &mut Rng, edition: Edition, sites: Vec<Site>) -> List {
 }
 
 /// A roll that rows 22 and 23 let through with these sites: 1 to 9 crews for each depot that they name; any others have
-/// none, some, or as many.
+/// none, some, or as many, or few of them have some.
 pub fn roll(rng: &mut Rng, sites: &[Site]) -> Roll {
-    let named = listed(sites);
+    let named = named(sites);
     let (one, other) = (rng.from_to(1, 9) as u8, rng.below(10) as u8);
     let odd = members(named).get(rng.below(64)).copied();
-    let kind = rng.below(8);
+    let few = (0..rng.from_to(1, 4)).fold(0u64, |set, _| set | 1 << rng.below(64));
+    let kind = rng.below(12);
     std::array::from_fn(|d| match kind {
         // as without a roll
         0 => (named >> d & 1) as u8,
@@ -235,7 +236,9 @@ pub fn roll(rng: &mut Rng, sites: &[Site]) -> Roll {
         _ if named >> d & 1 == 1 => rng.from_to(1, if kind == 3 { 2 } else { 9 }) as u8,
         3 | 4 => 0,
         5 => other,
-        _ => rng.below(10) as u8,
+        6 | 7 => rng.below(10) as u8,
+        _ if few >> d & 1 == 1 => rng.from_to(1, 9) as u8,
+        _ => 0,
     })
 }
 

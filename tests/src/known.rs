@@ -16,8 +16,12 @@ fn known(sites: &[(u8, u8, u32)], groups: &[u64], shares: &[u64]) -> Known {
 }
 
 /// The same with a roll.
+fn enrolled(known: Known, roll: Roll) -> Known {
+    Known { list: List { roll: Some(roll), ..known.list }, ..known }
+}
+
 fn crewed(known: Known, crews: &[(usize, u8)]) -> Known {
-    Known { list: List { roll: Some(roll(crews)), ..known.list }, ..known }
+    enrolled(known, roll(crews))
 }
 
 /// A roll with crews at these depots and at no other.
@@ -108,7 +112,6 @@ pub fn lists(e: Edition) -> Vec<Known> {
         // with rolls: a depot's load is its crews times W
         lists.extend([
             crewed(known(&[], &[], &[]), &[]),
-            crewed(known(&[], &[], &[]), &[(0, 1), (63, 9)]),
             // a roll of ones: as without
             crewed(known(&[(0, 1, 10)], &[3], &[10]), &[(0, 1), (1, 1)]),
             crewed(known(&[(0, 1, 9), (1, 2, 1)], &[3, 4], &[9, 0]), &[(0, 1), (1, 1), (2, 1)]),
@@ -119,17 +122,33 @@ pub fn lists(e: Edition) -> Vec<Known> {
             crewed(known(&[(0, 0, 4), (1, 1, 8)], &[3], &[12, 24]), &[(0, 1), (1, 2)]),
             crewed(known(&[(0, 0, 4), (1, 1, 8)], &[1, 2], &[4, 24]), &[(0, 1), (1, 3)]),
             crewed(known(&[(0, 0, 4), (1, 1, 4)], &[2, 1], &[8, 4]), &[(0, 2), (1, 1)]),
-            // crews at a depot that no site names: it is not listed
-            crewed(known(&[(5, 5, 7)], &[32], &[14]), &[(5, 2), (6, 9)]),
             // crews at one depot alone, which has all sites
             crewed(known(&[(63, 63, 4_294_967_295), (63, 63, 1)], &[1 << 63], &[38_654_705_655, 9]), &[(63, 9)]),
             // by crews other groups: 10/19 is more than 9/18
             crewed(known(&[(0, 1, 9), (1, 2, 1)], &[7], &[90, 9]), &[(0, 9), (1, 9), (2, 1)]),
             crewed(known(&[(0, 1, 9), (1, 2, 1)], &[3, 4], &[9, 0]), &[(0, 1), (1, 1), (2, 9)]),
         ]);
+        // crews at depots that no site names: the last group, W 0
+        lists.extend([
+            crewed(known(&[], &[1], &[]), &[(0, 1)]),
+            crewed(known(&[], &[1 | 1 << 63], &[]), &[(0, 1), (63, 9)]),
+            crewed(known(&[(5, 5, 7)], &[32, 64], &[14]), &[(5, 2), (6, 9)]),
+            crewed(known(&[(5, 5, 7)], &[32, 1 << 4 | 1 << 63], &[14]), &[(4, 1), (5, 2), (63, 1)]),
+            crewed(known(&[(0, 1, 10)], &[3, 4], &[10]), &[(0, 1), (1, 1), (2, 1)]),
+            crewed(known(&[(1, 2, 10)], &[6, 1], &[10]), &[(0, 9), (1, 1), (2, 1)]),
+            crewed(known(&[(0, 0, 4), (1, 1, 4)], &[3, 12], &[8, 8]), &[(0, 1), (1, 1), (2, 3), (3, 7)]),
+            crewed(known(&[(0, 1, 9), (1, 2, 1)], &[3, 4, 8], &[9, 0]), &[(0, 1), (1, 1), (2, 9), (3, 1)]),
+            // one litre at nine crews is more than none at one
+            crewed(known(&[(7, 7, 1)], &[128, 1], &[9]), &[(7, 9), (0, 1)]),
+            // 63 of them and one own site
+            enrolled(known(&[(63, 63, 1)], &[1 << 63, u64::MAX >> 1], &[1]), [1; 64]),
+            enrolled(known(&[(0, 0, 4_294_967_295)], &[1, u64::MAX << 1], &[38_654_705_655]), [9; 64]),
+            // all 64
+            enrolled(known(&[], &[u64::MAX], &[]), [1; 64]),
+            enrolled(known(&[], &[u64::MAX], &[]), [9; 64]),
+        ]);
         // the greatest q, 576, with W of 41 bits
-        let nine_each = all(4_294_967_295, 2_473_901_161_920);
-        lists.push(Known { list: List { roll: Some([9; 64]), ..nine_each.list }, ..nine_each });
+        lists.push(enrolled(all(4_294_967_295, 2_473_901_161_920), [9; 64]));
     }
     lists
 }
@@ -187,6 +206,8 @@ pub fn refusals(e: Edition) -> Vec<(u8, Vec<u8>, Vec<u8>)> {
         examples.extend([(3, ones.clone(), p.clone()), (3, changed(&ones, 0, &TWO.list), p.clone())]);
         return examples;
     }
+    // a roll and no sites
+    let none = |crews: &[(usize, u8)]| list_bytes(e, &List { sites: vec![], roll: Some(roll(crews)) });
     let own = |litres: [u32; 2], crews: &[(usize, u8)]| {
         let sites = vec![site(0, 0, litres[0]), site(1, 1, litres[1])];
         list_bytes(e, &List { sites, roll: Some(roll(crews)) })
@@ -216,9 +237,25 @@ pub fn refusals(e: Edition) -> Vec<(u8, Vec<u8>, Vec<u8>)> {
         (22, rolled(&[(0, 1), (1, 16)]), vec![]),
         (23, rolled(&[(0, 1)]), vec![]),
         (7, ones.clone(), vec![]),
-        // crews at a depot that no site names
-        (13, rolled(&[(0, 1), (1, 1), (2, 1)]), plan(&[3, 4], &[10])),
-        (13, rolled(&[(0, 1), (1, 1), (2, 1)]), plan(&[7], &[10])),
+        // crews at depots that no site names: left out, one alone left out, and one too many
+        (0, rolled(&[(0, 1), (1, 1), (2, 1)]), plan(&[3, 4], &[10])),
+        (13, rolled(&[(0, 1), (1, 1), (2, 1)]), plan(&[3], &[10])),
+        (13, rolled(&[(0, 1), (1, 1), (2, 1), (63, 1)]), plan(&[3, 4], &[10])),
+        (13, rolled(&[(0, 1), (1, 1), (2, 1)]), plan(&[3, 12], &[10])),
+        (13, rolled(&[(0, 1), (1, 1)]), plan(&[3, 4], &[10])),
+        (13, none(&[(0, 1)]), plan(&[], &[])),
+        (13, none(&[(0, 1), (5, 9)]), plan(&[1], &[])),
+        (13, none(&[]), plan(&[1], &[])),
+        // joined to the group before: depot 1 has 20 of 30, and depot 2 none
+        (15, rolled(&[(0, 1), (1, 1), (2, 1)]), plan(&[7], &[10])),
+        (15, rolled(&[(0, 1), (1, 1), (2, 1), (3, 1)]), plan(&[7, 8], &[15])),
+        // each in a group of its own, either first, and before the others
+        (16, rolled(&[(0, 1), (1, 1), (2, 1), (3, 2)]), plan(&[3, 4, 8], &[10])),
+        (16, rolled(&[(0, 1), (1, 1), (2, 1), (3, 2)]), plan(&[3, 8, 4], &[10])),
+        (16, rolled(&[(0, 1), (1, 1), (2, 1)]), plan(&[4, 3], &[10])),
+        (16, none(&[(0, 1), (5, 9)]), plan(&[1, 32], &[])),
+        (0, none(&[(0, 1), (5, 9)]), plan(&[33], &[])),
+        (0, none(&[]), plan(&[], &[])),
         // q is 4: 40 in all, 30 for depot 0
         (0, rolled(&[(0, 3), (1, 1)]), plan(&[3], &[30])),
         (14, rolled(&[(0, 3), (1, 1)]), plan(&[3], &[41])),

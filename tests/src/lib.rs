@@ -1,4 +1,4 @@
-//! The engine beside an independent implementation of document 01, and of document 02's requests a to e and g.
+//! The engine beside an independent implementation of document 01, and of document 02's requests a to e, g and h.
 //!
 //! - `records`, `reference`: the records of either edition, a roll among them, the reader and the rows, literally;
 //! - `decompose` over `flow`: the groups by minimum cuts and by a count over all sets, shares by a flow;

@@ -17,8 +17,10 @@ use engine_tests::desk;
 use engine_tests::families::{extent, random, roll, rolled, scattered, union, Extent, FAMILIES, LARGEST};
 use engine_tests::known;
 use engine_tests::migrate;
-use engine_tests::near::{miss, next_season};
-use engine_tests::records::{list_bytes, listed, plan_bytes, site, Edition, List, Plan, Site, EDITIONS, ONE, TWO};
+use engine_tests::near::{misplaced, miss, next_season};
+use engine_tests::records::{
+    isolated, list_bytes, listed, plan_bytes, site, Edition, List, Plan, Site, EDITIONS, ONE, TWO,
+};
 use engine_tests::reference::read_plan;
 use engine_tests::run::Run;
 
@@ -94,6 +96,7 @@ fn main() {
     }
     println!("{} lists counted over all sets; {} plans judged by the definition", run.counted, run.judged);
     println!("{} lists and plans answered alike without a roll and with one of ones", run.alike);
+    println!("{} plans judged beside their lists without isolated depots", run.apart);
     println!("{} cases, {} failed, {:.0} s", run.cases, run.failed, start.elapsed().as_secs_f64());
     std::process::exit(i32::from(run.failed > 0));
 }
@@ -116,6 +119,7 @@ fn document(run: &mut Run) {
             let own = run.plan(&known.list);
             run.check(&list, &plan_bytes(e, &own));
             across(run, e, &known.list, &own);
+            misplace(run, e, &known.list, &own);
             if let Some(shares) = known.shares {
                 if run.check(&list, &plan_bytes(e, &Plan { groups, shares })) != 0 {
                     run.fail("the document's plan does not pass", &[("list", &list)]);
@@ -136,6 +140,20 @@ fn document(run: &mut Run) {
         run.make(&t, &[], plan.len() - 1);
         if run.make(&t, &[], plan.len()) != Some(plan) {
             run.fail("make on T is not T's plan", &[]);
+        }
+    }
+}
+
+/// A list with its isolated depots otherwise than as the last group of its true plan.
+fn misplace(run: &mut Run, e: Edition, of: &List, plan: &Plan) {
+    let list = list_bytes(e, of);
+    for (row, plan) in misplaced(of, plan) {
+        let plan = plan_bytes(e, &plan);
+        if run.check(&list, &plan) != row {
+            run.fail(
+                &format!("isolated depots misplaced are not refused by row {row}"),
+                &[("list", &list), ("plan", &plan)],
+            );
         }
     }
 }
@@ -212,7 +230,8 @@ fn change_each(run: &mut Run, list: &[u8], plan: &[u8]) {
 }
 
 /// All lists of at most two sites on three depots with litres 1 and 2, in each edition, and in edition 2 with a roll of 1
-/// or 2 crews for each depot too, each with all orders of all groupings and all shares from 0 to one too many.
+/// or 2 crews for each of the three too, and of none or as many for one that no site names, each with all orders of all
+/// groupings and all shares from 0 to one too many.
 fn all_small(run: &mut Run) {
     let mut choices = Vec::new();
     for first in 0..3 {
@@ -224,10 +243,20 @@ fn all_small(run: &mut Run) {
     lists.extend(choices.iter().map(|&a| vec![a]));
     lists.extend(choices.iter().flat_map(|&a| choices.iter().map(move |&b| vec![a, b])));
     for sites in lists {
-        let crews: [u8; 64] = std::array::from_fn(|_| run.rng.from_to(1, 2) as u8);
         all_plans(run, ONE, &sites.clone().into());
         all_plans(run, TWO, &sites.clone().into());
-        all_plans(run, TWO, &List { sites, roll: Some(crews) });
+        let crews = [0; 3].map(|_| run.rng.from_to(1, 2) as u8);
+        let rolled = List { roll: Some(std::array::from_fn(|d| *crews.get(d).unwrap_or(&0))), sites };
+        all_plans(run, TWO, &rolled);
+        let mut fewer = rolled.clone();
+        for d in 0..3 {
+            if isolated(&rolled) >> d & 1 == 1 {
+                fewer.roll.as_mut().expect("a roll")[d] = run.rng.below(3) as u8;
+            }
+        }
+        if fewer != rolled {
+            all_plans(run, TWO, &fewer);
+        }
     }
 }
 
@@ -272,7 +301,8 @@ fn all_lists(run: &mut Run) {
                     run.make(&list_bytes(e, &list), &[], e.plan_length(4, 3));
                 }
                 let crews = roll(&mut run.rng, &list);
-                run.make(&list_bytes(TWO, &List { roll: Some(crews), ..list }), &[], TWO.plan_length(4, 3));
+                // a group more, of depots that no site names
+                run.make(&list_bytes(TWO, &List { roll: Some(crews), ..list }), &[], TWO.plan_length(5, 3));
             }
         }
     }
@@ -427,6 +457,7 @@ fn work_on(run: &mut Run, e: Edition, of: &List, times: usize) {
     run.check(&list, &made);
     run.check(&list, &plan_bytes(e, &own));
     across(run, e, of, &own);
+    misplace(run, e, of, &own);
 
     // bytes cut off, which still stand behind the record, and bytes added
     for _ in 0..times {

@@ -2,7 +2,7 @@
 
 use crate::decompose::{by_cuts, innermost_core, shares};
 use crate::families::roll;
-use crate::records::{listed, members, Edition, List, Plan, Site};
+use crate::records::{isolated, listed, members, named, Edition, List, Plan, Site};
 use crate::rng::Rng;
 
 /// The groups with shares as level as a flow can make them.
@@ -107,13 +107,15 @@ fn misscaled(plan: &Plan, list: &List) -> Plan {
     plan
 }
 
-/// A plan that leaves crews out somewhere: a true one of the sites without the roll; its groups, with level shares; or
-/// the right groups, level at another scale or with each depot at W.
+/// A plan that leaves crews out somewhere: a true one of the sites without the roll; its groups and, where there are
+/// any, the depots that no site names, with level shares; or the right groups, level at another scale or with each depot
+/// at W.
 fn miscrewed(rng: &mut Rng, list: &List, plan: &Plan) -> Plan {
     let plain = List::from(list.sites.clone());
+    let last = Some(isolated(list)).filter(|&set| set != 0);
     match rng.below(4) {
         0 => levelled(&plain, by_cuts(&plain)),
-        1 => levelled(list, by_cuts(&plain)),
+        1 => levelled(list, by_cuts(&plain).into_iter().chain(last).collect()),
         2 => levelled(&plain, plan.groups.clone()),
         _ => {
             // level without the roll, brought to the scale with it
@@ -126,6 +128,44 @@ fn miscrewed(rng: &mut Rng, list: &List, plan: &Plan) -> Plan {
             even
         }
     }
+}
+
+/// The depots that no site names, where a list has any, otherwise than as the last group of its true plan: the row that
+/// refuses it, and the plan.
+pub fn misplaced(list: &List, plan: &Plan) -> Vec<(u8, Plan)> {
+    let all = isolated(list);
+    if all == 0 {
+        return vec![];
+    }
+    let front = &plan.groups[..plan.groups.len() - 1];
+    let with = |last: &[u64]| Plan { groups: [front, last].concat(), shares: plan.shares.clone() };
+    // left out
+    let mut near = vec![(13, with(&[]))];
+    let depots: Vec<u64> = members(all).into_iter().map(|d| 1 << d).collect();
+    if depots.len() > 1 {
+        // one of them left out; each in a group of its own; two groups, either first
+        let (first, last) = (depots[0], depots[depots.len() - 1]);
+        near.extend([(13, with(&[all & !first])), (13, with(&[all & !last])), (16, with(&depots))]);
+        near.extend([(16, with(&[first, all & !first])), (16, with(&[all & !last, last]))]);
+    }
+    if let Some(free) = members(!listed(list)).first() {
+        // with one that is not listed, in their group and in one behind it
+        near.extend([(13, with(&[all | 1 << free])), (13, with(&[all, 1 << free]))]);
+    }
+    if let Some((before, front)) = front.split_last() {
+        // all and one of them joined to the group before, to the first, and in front of all
+        let joined = |groups: &[&[u64]]| levelled(list, groups.concat());
+        let rest = all & !depots[0];
+        near.push((15, joined(&[front, &[before | all]])));
+        if rest != 0 {
+            near.push((15, joined(&[front, &[before | depots[0], rest]])));
+        }
+        let mut groups = [front, &[*before]].concat();
+        near.push((16, Plan { groups: [&[all], &groups[..]].concat(), shares: plan.shares.clone() }));
+        groups[0] |= all;
+        near.push((15, levelled(list, groups)));
+    }
+    near
 }
 
 /// A plan close to a true one of a list, of an edition, with at least one site.
@@ -141,14 +181,16 @@ pub fn miss(rng: &mut Rng, e: Edition, list: &List, plan: &Plan) -> Plan {
     }
 }
 
-/// Another roll, or none, or a first one: crews at one depot changed, two depots' exchanged, ones, any.
+/// Another roll, or none, or a first one: crews at one depot changed, which no site need name, two depots' exchanged,
+/// ones, any.
 fn recrewed(rng: &mut Rng, list: &mut List) {
-    let named = members(listed(list));
-    match (&mut list.roll, rng.below(5)) {
+    let (named, isolated) = (members(named(list)), members(isolated(list)));
+    match (&mut list.roll, rng.below(6)) {
         (Some(crews), 0 | 1) => {
             let d = if rng.percent(80) { *rng.pick(&named) } else { rng.below(64) };
             crews[d] = if crews[d] == 9 || rng.percent(50) { crews[d].max(2) - 1 } else { crews[d] + 1 };
         }
+        (Some(crews), 5) if !isolated.is_empty() => crews[*rng.pick(&isolated)] = rng.below(10) as u8,
         (Some(crews), 2) => crews.swap(*rng.pick(&named), *rng.pick(&named)),
         (Some(_), 3) => list.roll = None,
         (None, 0 | 1) => *list = list.with_ones(),
@@ -164,6 +206,7 @@ pub fn next_season(rng: &mut Rng, e: Edition, list: &List) -> List {
         recrewed(rng, &mut next);
         return next;
     }
+    let listed = members(listed(&next));
     let sites = &mut next.sites;
     let n = sites.len();
     let i = rng.below(n);
@@ -172,7 +215,7 @@ pub fn next_season(rng: &mut Rng, e: Edition, list: &List) -> List {
         1 => sites[i].litres = (sites[i].litres - 1).max(1),
         2 => sites.swap(i, rng.below(n)),
         3 => sites[i] = Site { first: sites[i].second, second: sites[i].first, ..sites[i] },
-        4 => sites[i].second = *rng.pick(&members(listed(sites))) as u8,
+        4 => sites[i].second = *rng.pick(&listed) as u8,
         5 => sites[i].litres = (sites[i].litres ^ 1 << rng.below(8 * (e.site_bytes - 4))).max(1),
         _ => sites[i].litres = rng.from_to(1, e.most() as usize) as u32,
     }

@@ -151,7 +151,7 @@ impl List {
 
     /// The same sites with a roll of one crew for each depot that a site names and none for every other.
     pub fn with_ones(&self) -> List {
-        let named = listed(self);
+        let named = named(self);
         List { roll: Some(std::array::from_fn(|d| (named >> d & 1) as u8)), ..self.clone() }
     }
 }
@@ -232,8 +232,19 @@ pub fn members(set: u64) -> Vec<usize> {
 }
 
 /// The depots that some site names.
-pub fn listed(sites: &[Site]) -> u64 {
+pub fn named(sites: &[Site]) -> u64 {
     sites.iter().fold(0, |set, s| set | 1 << s.first | 1 << s.second)
+}
+
+/// Those, and "a depot with crews in the roll is listed even without sites".
+pub fn listed(list: &List) -> u64 {
+    let crewed = |roll: Roll| (0..64).filter(|&d| roll[d] > 0).fold(0, |set, d| set | 1 << d);
+    named(list) | list.roll.map_or(0, crewed)
+}
+
+/// The listed depots that no site names.
+pub fn isolated(list: &List) -> u64 {
+    listed(list) & !named(list)
 }
 
 pub fn hex(bytes: &[u8]) -> String {

@@ -145,10 +145,10 @@ fn level(list: &List, groups: &[Depots], shares: &[u64]) -> bool {
     groups.iter().enumerate().all(|(k, g)| (0..64).all(|d| !g[d] || loads[k][d] == list.crews(d) * litres[k]))
 }
 
-/// The depots that some site names.
-fn named(sites: &[Site]) -> Depots {
-    let mut set = [false; 64];
-    for site in sites {
+/// The depots that some site names, and those with crews in the roll.
+fn listed(list: &List) -> Depots {
+    let mut set = list.roll.map_or([false; 64], |roll| roll.map(|crews| crews > 0));
+    for site in list.iter() {
         set[usize::from(site.first)] = true;
         set[usize::from(site.second)] = true;
     }
@@ -162,8 +162,8 @@ pub fn plan_row(list: &List, groups: &[Depots], shares: &[u64]) -> u8 {
             return 12;
         }
     }
-    let named = named(list);
-    if (0..64).any(|d| named[d] != groups.iter().any(|g| g[d])) {
+    let listed = listed(list);
+    if (0..64).any(|d| listed[d] != groups.iter().any(|g| g[d])) {
         return 13;
     }
     if list.iter().zip(shares).any(|(site, &s)| share_refused(list, groups, site, s)) {
@@ -239,7 +239,7 @@ pub fn convert_plan(from: Edition, list: &[u8], plan: &[u8], room: [usize; 2]) -
 }
 
 /// Groups as numbers, bit n for depot n.
-fn sets(groups: &[Depots]) -> Vec<u64> {
+pub fn sets(groups: &[Depots]) -> Vec<u64> {
     groups.iter().map(|g| (0..64).map(|d| u64::from(g[d]) << d).sum()).collect()
 }
 

@@ -3,7 +3,7 @@
 use crate::damage::list_rows;
 use crate::decompose::{by_all_sets, by_cuts, shares};
 use crate::lent::{self, Lent};
-use crate::records::{hex, list_bytes, listed, Edition, List, Plan, ONE, TWO};
+use crate::records::{hex, isolated, list_bytes, listed, members, plan_bytes, Edition, List, Plan, ONE, TWO};
 use crate::reference::{self, edition_of};
 use crate::rng::Rng;
 
@@ -32,6 +32,8 @@ pub struct Run {
     pub judged: usize,
     /// How often a list without a roll and the same with a roll of ones were answered alike.
     pub alike: usize,
+    /// How often a list with isolated depots was answered as the definition has it beside the list without them.
+    pub apart: usize,
     /// The list worked on, and its groups.
     held: (List, Vec<u64>),
 }
@@ -49,6 +51,7 @@ impl Run {
             counted: 0,
             judged: 0,
             alike: 0,
+            apart: 0,
             held: (List::default(), Vec::new()),
         }
     }
@@ -135,6 +138,9 @@ impl Run {
         if e.has_rolls() && read.roll.is_none() {
             self.judge_ones(&read, plan, row);
         }
+        if isolated(&read) != 0 {
+            self.judge_apart(&read, plan, row);
+        }
     }
 
     /// "A roll with 1 for each depot that a site names and 0 for every other lets exactly those plans pass that pass
@@ -146,6 +152,30 @@ impl Run {
         if answer != row || reference::check(&rolled, plan) != row {
             let what = format!("with a roll of ones check answers {answer}, without {row}");
             self.fail(&what, &[("list", &rolled), ("plan", plan)]);
+        }
+    }
+
+    /// "Such depots form the last group": a plan of a list with isolated depots passes just where they are its last group
+    /// and, without that group, it passes with the list whose roll has no crews for them.
+    fn judge_apart(&mut self, list: &List, plan: &[u8], row: u8) {
+        self.apart += 1;
+        let (groups, shares) = reference::read_plan(TWO, plan, list.len()).expect("a plan of the right form");
+        let mut groups = reference::sets(&groups);
+        let alone = isolated(list);
+        let mut without = list.clone();
+        for d in members(alone) {
+            without.roll.as_mut().expect("a roll")[d] = 0;
+        }
+        let passes = groups.pop() == Some(alone) && {
+            let rest = plan_bytes(TWO, &Plan { groups, shares });
+            sulgheti::check(&list_bytes(TWO, &without), &rest).is_ok()
+        };
+        if passes != (row == 0) {
+            let what = format!(
+                "row {row}, and without its isolated depots the plan {}",
+                if passes { "passes" } else { "fails" }
+            );
+            self.fail(&what, &[("list", &list_bytes(TWO, list)), ("plan", plan)]);
         }
     }
 

@@ -1,6 +1,6 @@
 // Desks and tables that no history leaves behind, put to the desk's entry of each edition. Where row 0 applies, every call but load is refused by it, and the desk, the table and the
 // buffer come back as they were; load works. Where only rows 15 or 16 would refuse the held plan, or the content lies beyond what is held, the desk answers from what it holds.
-// Then tables of 0, 3, 512 and 600 places: a call stores what it is to store, and every other place keeps its content. Last, what only edition 2 can hold: large figures and rolls.
+// Then tables of 0, 3, 512 and 600 places: a call stores what it is to store, and every other place keeps its content. Last, what only edition 2 can hold: large figures, rolls and isolated depots.
 use density::Site;
 use edition1::Request1;
 use edition1::narrow_store;
@@ -343,9 +343,9 @@ fn stays(d: Desk, request: Request, input: &[u8], expected: Answer) -> bool {
     is_blank(buffer)
 }
 
-// The list written out has this length, and the buffer then is this.
-fn lists(d: Desk, n: usize, whole: &[u8]) -> bool {
-    let left = called(d, Request::ListWritten, b"");
+// What is written out has this length, and the buffer then is this.
+fn writes(d: Desk, request: Request, n: usize, whole: &[u8]) -> bool {
+    let left = called(d, request, b"");
     if !answers(d, left, Answer::Length(n)) {
         return false;
     }
@@ -529,9 +529,9 @@ fn corrupt_own(start: Tally, e: u8) -> Tally {
 // The list written out: its length and the buffer then, in edition 1 and in edition 2.
 fn written_out(t: Tally, d: Desk, n: usize, bytes1: &[u8], m: usize, bytes2: &[u8]) -> Tally {
     if d.edition == 1 {
-        return tallied(t, lists(d, n, bytes1));
+        return tallied(t, writes(d, Request::ListWritten, n, bytes1));
     }
-    tallied(t, lists(d, m, bytes2))
+    tallied(t, writes(d, Request::ListWritten, m, bytes2))
 }
 
 // The list T.
@@ -803,6 +803,244 @@ fn beside_no_roll(start: Tally) -> Tally {
     tallied(v, keeps_roll(d, Request::Add(2, 3, 4), 2))
 }
 
+// A list with the site (0,1) of 12 litres and with three crews, one and two at depots 0, 1 and 2: depot 2 is isolated.
+fn opened_list() -> [u8; 78] {
+    let mut bytes = [0u8; 78];
+    bytes[0] = 0x4C;
+    bytes[1] = 0x32;
+    bytes[2] = 1;
+    bytes[4] = 0x53;
+    bytes[5] = 0x32;
+    bytes[7] = 1;
+    bytes[8] = 12;
+    bytes[12] = 0x44;
+    bytes[13] = 0x52;
+    bytes[14] = 3;
+    bytes[15] = 1;
+    bytes[16] = 2;
+    bytes
+}
+
+// A list without sites and with nine crews at each depot.
+fn empty_list() -> [u8; 70] {
+    let mut bytes = [9u8; 70];
+    bytes[0] = 0x4C;
+    bytes[1] = 0x32;
+    bytes[2] = 0;
+    bytes[3] = 0;
+    bytes[4] = 0x44;
+    bytes[5] = 0x52;
+    bytes
+}
+
+// The desk with so many crews at one depot more.
+fn opened(d: Desk, depot: usize, n: u8) -> Desk {
+    let store = d.store;
+    let roll = store.roll;
+    let mut crews = roll.crews;
+    if depot < 64 {
+        crews[depot] = n;
+    }
+    with_roll(
+        d,
+        RollArray {
+            there: roll.there,
+            crews,
+        },
+    )
+}
+
+// The desk that a call leaves.
+fn after(d: Desk, request: Request, input: &[u8]) -> Desk {
+    let left = called(d, request, input);
+    let store = left.store;
+    let table = left.table;
+    Desk {
+        edition: d.edition,
+        store,
+        table,
+        places: d.places,
+    }
+}
+
+// A fresh desk, over a table of two places.
+fn fresh_desk() -> Desk {
+    let no = site(0, 0, 0);
+    listed(2, 0, no, no, no, 2)
+}
+
+// A list that a fresh desk loads, and the desk and the table then.
+fn loads(start: Tally, list: &[u8], expected: Desk) -> Tally {
+    let store = expected.store;
+    let t = tallied(start, leaves(fresh_desk(), Request::Load, list, store));
+    let left = after(fresh_desk(), Request::Load, list);
+    let sites = left.table;
+    let table = expected.table;
+    tallied(t, same_table(sites, table))
+}
+
+// A plan that a row refuses, and one that is held then, with the desk.
+fn refuses(t: Tally, d: Desk, plan: &[u8], row: u8) -> Tally {
+    tallied(t, stays(d, Request::Propose, plan, Answer::Refused(row)))
+}
+
+fn holds(t: Tally, d: Desk, plan: &[u8], expected: Desk) -> Tally {
+    let store = expected.store;
+    tallied(t, leaves(d, Request::Propose, plan, store))
+}
+
+// The desk that holds the first of these lists.
+fn opened_desk() -> Desk {
+    let no = site(0, 0, 0);
+    let one = listed(2, 1, site(0, 1, 12), no, no, 2);
+    opened(crewed(one, 3, 1, 0), 2, 2)
+}
+
+// Plans of it that leave the isolated depot out, join it to the group before, or have it in a group before.
+fn opened_refused(start: Tally, d: Desk) -> Tally {
+    let out = b"P2\x01\x01\x00GR\x03\x00\x00\x00\x00\x00\x00\x00S3\x24\x00\x00\x00\x00\x00\x00\x00";
+    let t = refuses(start, d, out, 13);
+    let joined =
+        b"P2\x01\x01\x00GR\x07\x00\x00\x00\x00\x00\x00\x00S3\x36\x00\x00\x00\x00\x00\x00\x00";
+    let u = refuses(t, d, joined, 15);
+    let before =
+        b"P2\x02\x01\x00GR\x04\x00\x00\x00\x00\x00\x00\x00GR\x03\x00\x00\x00\x00\x00\x00\x00S3\x24\x00\x00\x00\x00\x00\x00\x00";
+    refuses(u, d, before, 16)
+}
+
+// Questions about it: W 0 and its crews; the differences with a depot of the group before, and with itself; one that is not listed.
+fn opened_asked(start: Tally, d: Desk) -> Tally {
+    let t = asked(start, d, Request::Depot(2), Answer::Depot(0, 2));
+    let u = asked(t, d, Request::Depot(0), Answer::Depot(12, 4));
+    let v = asked(u, d, Request::Difference(1, 2), Answer::Difference(24, 8));
+    let w = asked(v, d, Request::Difference(2, 1), Answer::Difference(-24, 8));
+    let x = asked(w, d, Request::Difference(2, 2), Answer::Difference(0, 4));
+    let y = asked(x, d, Request::Depot(3), Answer::Refused(19));
+    asked(y, d, Request::Difference(2, 63), Answer::Refused(19))
+}
+
+// The depots that reach 0 are all listed ones, and the isolated one does not reach 1. The share is that of a group of four crews.
+fn opened_reached(start: Tally, d: Desk) -> Tally {
+    let t = asked(start, d, Request::AtLeast(0), Answer::Reached(7));
+    let u = asked(t, d, Request::AtLeast(1), Answer::Reached(3));
+    let v = asked(u, d, Request::AtLeast(3), Answer::Reached(3));
+    let w = asked(v, d, Request::AtLeast(4), Answer::Reached(0));
+    asked(w, d, Request::Share(0), Answer::Share(36, 48))
+}
+
+// A site that names it is added, (2,1) of 1, and the plan of both sites proposed: its group carries the new one, and it has all of that.
+fn opened_added(start: Tally, d: Desk) -> Tally {
+    let t = asked(start, d, Request::Add(2, 3, 1), Answer::Refused(23));
+    let add = Request::Add(2, 1, 1);
+    let u = tallied(t, keeps_roll(d, add, 2));
+    let two = after(d, add, b"");
+    let v = asked(u, two, Request::Depot(2), Answer::Refused(17));
+    let plan =
+        b"P2\x02\x02\x00GR\x03\x00\x00\x00\x00\x00\x00\x00GR\x04\x00\x00\x00\x00\x00\x00\x00S3\x24\x00\x00\x00\x00\x00\x00\x00S3\x02\x00\x00\x00\x00\x00\x00\x00";
+    let w = holds(v, two, plan, planned(two, 2, 3, 4, 36, 2));
+    let held = after(two, Request::Propose, plan);
+    let x = asked(w, held, Request::Depot(2), Answer::Depot(1, 2));
+    asked(x, held, Request::Share(1), Answer::Share(2, 2))
+}
+
+// A history: the list is loaded, its plan {0,1}, {2} with 36 of 48 proposed.
+fn opened_history(start: Tally) -> Tally {
+    let list = opened_list();
+    let t = loads(start, &list, opened_desk());
+    let d = after(fresh_desk(), Request::Load, &list);
+    let u = opened_refused(t, d);
+    let plan =
+        b"P2\x02\x01\x00GR\x03\x00\x00\x00\x00\x00\x00\x00GR\x04\x00\x00\x00\x00\x00\x00\x00S3\x24\x00\x00\x00\x00\x00\x00\x00";
+    let v = holds(u, d, plan, planned(opened_desk(), 2, 3, 4, 36, 0));
+    let held = after(d, Request::Propose, plan);
+    opened_added(opened_reached(opened_asked(v, held), held), held)
+}
+
+// The desk that holds the second list.
+fn empty_desk() -> Desk {
+    crewed(fresh_desk(), 9, 9, 9)
+}
+
+// Plans of it with no group and with two.
+fn empty_refused(start: Tally, d: Desk) -> Tally {
+    let t = refuses(start, d, b"P2\x00\x00\x00", 13);
+    let two = b"P2\x02\x00\x00GR\x01\x00\x00\x00\x00\x00\x00\x00GR\xFE\xFF\xFF\xFF\xFF\xFF\xFF\xFF";
+    refuses(t, d, two, 16)
+}
+
+// Questions: all depots have W 0 and 576 crews, and reach 0 alone.
+fn empty_asked(start: Tally, d: Desk) -> Tally {
+    let t = asked(start, d, Request::Depot(63), Answer::Depot(0, 576));
+    let none = Answer::Difference(0, 331776);
+    let u = asked(t, d, Request::Difference(0, 63), none);
+    let all = Answer::Reached(18446744073709551615);
+    let v = asked(u, d, Request::AtLeast(0), all);
+    let w = asked(v, d, Request::AtLeast(1), Answer::Reached(0));
+    asked(w, d, Request::Share(0), Answer::Refused(18))
+}
+
+// A history without sites: the plan of one group is proposed, and written out; then a site is added.
+fn empty_history(start: Tally) -> Tally {
+    let list = empty_list();
+    let t = loads(start, &list, empty_desk());
+    let d = after(fresh_desk(), Request::Load, &list);
+    let u = empty_refused(t, d);
+    let plan = b"P2\x01\x00\x00GR\xFF\xFF\xFF\xFF\xFF\xFF\xFF\xFF";
+    let expected = planned(empty_desk(), 1, 18446744073709551615, 0, 0, 0);
+    let v = holds(u, d, plan, expected);
+    let held = after(d, Request::Propose, plan);
+    let w = empty_asked(v, held);
+    let whole = b"P2\x01\x00\x00GR\xFF\xFF\xFF\xFF\xFF\xFF\xFF\xFF\xA5\xA5\xA5\xA5\xA5";
+    let x = tallied(w, writes(held, Request::Written, 15, whole));
+    tallied(x, keeps_roll(held, Request::Add(0, 63, 5), 1))
+}
+
+// Row 0: the held groups are not the listed depots. The isolated depot is left out; a roll byte went from 0 to 1, of a depot above it and of the last; one went to 0.
+fn corrupt_opened(start: Tally) -> Tally {
+    let d = opened_desk();
+    let t = corrupt(start, planned(d, 1, 3, 0, 36, 0));
+    let held = planned(d, 2, 3, 4, 36, 0);
+    let u = corrupt(t, opened(held, 3, 1));
+    let v = corrupt(u, opened(held, 63, 1));
+    corrupt(v, opened(held, 2, 0))
+}
+
+// The same of desks without sites: no groups and one crew, one group and no crew; and of a plan that was whole before the roll's byte changed.
+fn corrupt_empty(start: Tally) -> Tally {
+    let no = site(0, 0, 0);
+    let none = crewed(fresh_desk(), 0, 0, 0);
+    let d = planned(none, 0, 0, 0, 0, 0);
+    let t = asked(start, d, Request::AtLeast(0), Answer::Reached(0));
+    let u = corrupt(t, opened(d, 5, 1));
+    let v = corrupt(u, planned(none, 1, 32, 0, 0, 0));
+    let one = crewed(listed(2, 1, site(0, 1, 12), no, no, 2), 3, 1, 0);
+    let held = planned(one, 1, 3, 0, 36, 0);
+    let w = asked(v, held, Request::AtLeast(0), Answer::Reached(3));
+    corrupt(w, opened(held, 2, 1))
+}
+
+// No corruption: only row 15 refuses the isolated depot joined to the group before, and only row 16 a group before.
+fn opened_odd(start: Tally) -> Tally {
+    let d = planned(opened_desk(), 1, 7, 0, 54, 0);
+    let t = asked(start, d, Request::Depot(2), Answer::Depot(12, 6));
+    let u = asked(t, d, Request::AtLeast(2), Answer::Reached(7));
+    let e = planned(opened_desk(), 2, 4, 3, 36, 0);
+    let v = asked(u, e, Request::Depot(2), Answer::Depot(0, 2));
+    let w = asked(v, e, Request::AtLeast(0), Answer::Reached(7));
+    asked(w, e, Request::AtLeast(1), Answer::Reached(0))
+}
+
+// Without a roll no depot is isolated, whatever the bytes beside it: the plan {0,1} is whole, and one with depot 2 is not.
+fn opened_without(start: Tally) -> Tally {
+    let no = site(0, 0, 0);
+    let one = listed(2, 1, site(0, 1, 12), no, no, 2);
+    let d = with_roll(one, roll_of(false, 1, 1, 1));
+    let held = planned(d, 1, 3, 0, 12, 0);
+    let t = asked(start, held, Request::Depot(2), Answer::Refused(19));
+    let u = asked(t, held, Request::AtLeast(0), Answer::Reached(3));
+    corrupt(u, planned(d, 2, 3, 4, 12, 0))
+}
+
 // The cases of an edition.
 fn desks(start: Tally, e: u8) -> Tally {
     let lists = corrupt_sites(corrupt_counts(start, e), e);
@@ -829,4 +1067,8 @@ fn main() {
     tally::print(b"large figures", large);
     let rolls = beside_no_roll(rolled(corrupt_crews(corrupt_rolls(none))));
     tally::print(b"rolls", rolls);
+    let histories = empty_history(opened_history(none));
+    let broken = corrupt_empty(corrupt_opened(histories));
+    let isolated = opened_without(opened_odd(broken));
+    tally::print(b"isolated depots", isolated);
 }

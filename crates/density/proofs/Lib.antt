@@ -19,4 +19,5 @@ pub mod Split
 pub mod Made
 pub mod Units
 pub mod SharesExist
+pub mod Isolated
 pub mod Rolls

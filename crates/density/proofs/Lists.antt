@@ -3,13 +3,13 @@ use mathlib.Core.Path.{_≡_, sym, ap, _∙_, subst}
 use mathlib.Core.Logic.{⊎-elim}
 use mathlib.Core.Bool.{Bool, true, false, _&&_, _||_, not}
 use mathlib.Core.List.{List}
-use mathlib.Core.Option.{Option, none}
+use mathlib.Core.Option.{Option, none, some}
 use Prim.Native.Nat.{ℕ, _≤_, _<_, _^_}
 use native.Mathlib.Nat.{eq-zero-or-pos}
 use native.Mathlib.Omega.{arith}
 use lib.Count.{ones}
 use lib.Dec.{T, T-not, not-T, eqb, ltb, eqb→eq, eqb-refl, ltb→lt, nltb→le}
-use lib.ListN.{length}
+use lib.ListN.{length, getD}
 use Rattle.sets.specs.Sum.{any}
 use Rattle.sets.specs.Set.{Depots, has, cardinality, weigh}
 use Rattle.density.specs.Network.{
@@ -19,6 +19,7 @@ use Rattle.density.specs.Network.{
   end,
   named,
   crewsOf,
+  enrolled,
   network,
   depotsInRange,
   crewsAbove,
@@ -90,14 +91,19 @@ named-small l h d t =
     (λ e. subst (λ n. n < 64) (eqb→eq _ d e) (ltb→lt _ 64 (and-r (ltb (s .first) 64) _ b)))
     (or-cases (eqb (s .first) d) (eqb (s .second) d) (r .2))
 
+-- a depot that the roll has crews for is in range
+pub enrolled→ : (roll : Option (List ℕ)) (d : ℕ) → T (enrolled roll d) → (d < 64) × (0 < crewsOf roll d)
+enrolled→ none d t = absurd t
+enrolled→ (some roll) d t = (ltb→lt d 64 (and-l (ltb d 64) _ t), ltb→lt 0 (getD roll d 0) (and-r (ltb d 64) _ t))
+
 pub valid-of : (l : Listing) → T (depotsInRange l) → ((d : ℕ) → T (named l d) → 0 < crewsOf (l .roll) d) → Valid (network l)
 unfolding network
 valid-of l h c =
     record {
-      first-listed = λ i m. any-from _ n i m (or-l (eqb (siteAt l i .first) (siteAt l i .first)) _ (eqb-refl (siteAt l i .first)));
-      second-listed = λ i m. any-from _ n i m (or-r (eqb (siteAt l i .first) (siteAt l i .second)) _ (eqb-refl (siteAt l i .second)));
-      small = named-small l h;
-      crewed = c;
+      first-listed = λ i m. or-l (named l (siteAt l i .first)) _ (any-from _ n i m (or-l (eqb (siteAt l i .first) (siteAt l i .first)) _ (eqb-refl (siteAt l i .first))));
+      second-listed = λ i m. or-l (named l (siteAt l i .second)) _ (any-from _ n i m (or-r (eqb (siteAt l i .first) (siteAt l i .second)) _ (eqb-refl (siteAt l i .second))));
+      small = λ d t. ⊎-elim (named-small l h d) (λ u. enrolled→ (l .roll) d u .0) (or-cases (named l d) (enrolled (l .roll) d) t);
+      crewed = λ d t. ⊎-elim (c d) (λ u. enrolled→ (l .roll) d u .1) (or-cases (named l d) (enrolled (l .roll) d) t);
     }
   where
     n : ℕ

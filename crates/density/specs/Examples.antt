@@ -1,4 +1,4 @@
--- Document 01, "Lists with known plans": the starred lists, and the examples of rows 12 to 16. Document 02, a: thresholds.
+-- Document 01, "Lists with known plans": the starred lists, and the examples of rows 12 to 16. Document 02, a: thresholds; g: crews; h: depots without sites.
 use mathlib.Core.Path.{_≡_}
 use mathlib.Core.List.{List, [], _∷_}
 use mathlib.Core.Option.{none, some}
@@ -60,15 +60,18 @@ nineSites =
     (5 ∷ 1 ∷ [])
     []
 
--- Not in the papers, document 02, g: crews. (0,1) of 12 with three crews and one; the same with a crew each; own 0 of 4 with two crews, where depot 2 has one and no
--- site; (0,1) of 12 and own 2 of 5 with nine, nine and one: one crew each would put {0,1} first; own 0 of 4 and own 1 of 8 with one and two: one group.
+-- Not in the papers, document 02, g: crews. (0,1) of 12 with three crews and one; the same with a crew each; (0,1) of 12 and own 2 of 5 with nine, nine and one: one
+-- crew each would put {0,1} first; own 0 of 4 and own 1 of 8 with one and two: one group. Document 02, h: own 0 of 4 with two crews, and one of depot 2, which no site
+-- names; own 1 of 4 with a crew, three and one of depots 0 and 2, which no site names: one group; and no sites at all.
 unfoldable pub withCrews : List Example
 withCrews =
     exampleWith (pair 0 1 12 ∷ []) (3 ∷ 1 ∷ []) (3 ∷ []) (12 ∷ []) (4 ∷ []) (36 ∷ [])
     ∷ exampleWith (pair 0 1 12 ∷ []) (1 ∷ 1 ∷ []) (3 ∷ []) (12 ∷ []) (2 ∷ []) (12 ∷ [])
-    ∷ exampleWith (own 0 4 ∷ []) (2 ∷ 0 ∷ 1 ∷ []) (1 ∷ []) (4 ∷ []) (2 ∷ []) (8 ∷ [])
     ∷ exampleWith (pair 0 1 12 ∷ own 2 5 ∷ []) (9 ∷ 9 ∷ 1 ∷ []) (4 ∷ 3 ∷ []) (5 ∷ 12 ∷ []) (1 ∷ 18 ∷ []) (108 ∷ 5 ∷ [])
     ∷ exampleWith (own 0 4 ∷ own 1 8 ∷ []) (1 ∷ 2 ∷ []) (3 ∷ []) (12 ∷ []) (3 ∷ []) (12 ∷ 24 ∷ [])
+    ∷ exampleWith (own 0 4 ∷ []) (2 ∷ 0 ∷ 1 ∷ []) (1 ∷ 4 ∷ []) (4 ∷ 0 ∷ []) (2 ∷ 1 ∷ []) (8 ∷ [])
+    ∷ exampleWith (own 1 4 ∷ []) (3 ∷ 1 ∷ 1 ∷ []) (2 ∷ 5 ∷ []) (4 ∷ 0 ∷ []) (1 ∷ 4 ∷ []) (4 ∷ [])
+    ∷ exampleWith [] (0 ∷ 2 ∷ 1 ∷ []) (6 ∷ []) (0 ∷ []) (3 ∷ []) []
     ∷ []
 
 -- Document 02, a: groups of own sites of 4 and of 9 ({0} is 1, {1} 2), a threshold, and the sets found by reading up to the first group below it and by looking
@@ -125,8 +128,12 @@ pub record Refused : Type 0 where
 abbrev pub refusal : List Site → List ℕ → List ℕ → ℕ → Refused
 refusal l g s r = record { list = record { sites = l; roll = none }; groups = g; shares = s; number = r }
 
+abbrev pub refusalWith : List Site → List ℕ → List ℕ → List ℕ → ℕ → Refused
+refusalWith l c g s r = record { list = record { sites = l; roll = some c }; groups = g; shares = s; number = r }
+
 -- the paper's examples of rows 12 to 16, then others: an empty group; 12 before 13; own site not whole; a first and a second depot in
--- an earlier group with a share; 14 before 15; 15 before 16
+-- an earlier group with a share; 14 before 15; 15 before 16. Document 02, h: own 0 of 4, and depots 1 and 2 with crews and no site, left out, one of them alone
+-- left out, in a group of its own each, joined to the group before, and in a group before it.
 unfoldable pub refused : List Refused
 refused =
     refusal (pair 0 1 10 ∷ []) (1 ∷ 3 ∷ []) (10 ∷ []) 12
@@ -141,6 +148,11 @@ refused =
     ∷ refusal (own 0 7 ∷ pair 1 0 6 ∷ []) (1 ∷ 2 ∷ []) (7 ∷ 5 ∷ []) 14
     ∷ refusal (own 0 5 ∷ pair 0 1 6 ∷ []) (3 ∷ []) (9 ∷ 2 ∷ []) 14
     ∷ refusal (pair 0 1 2 ∷ own 2 3 ∷ []) (3 ∷ 4 ∷ []) (1 ∷ 3 ∷ []) 15
+    ∷ refusalWith (own 0 4 ∷ []) (1 ∷ 2 ∷ 1 ∷ []) (1 ∷ []) (4 ∷ []) 13
+    ∷ refusalWith (own 0 4 ∷ []) (1 ∷ 2 ∷ 1 ∷ []) (1 ∷ 2 ∷ []) (4 ∷ []) 13
+    ∷ refusalWith (own 0 4 ∷ []) (1 ∷ 2 ∷ 1 ∷ []) (1 ∷ 2 ∷ 4 ∷ []) (4 ∷ []) 16
+    ∷ refusalWith (own 0 4 ∷ []) (1 ∷ 2 ∷ 1 ∷ []) (7 ∷ []) (16 ∷ []) 15
+    ∷ refusalWith (own 0 4 ∷ []) (1 ∷ 2 ∷ 1 ∷ []) (6 ∷ 1 ∷ []) (4 ∷ []) 16
     ∷ []
 
 abbrev pub noRefusal : Refused

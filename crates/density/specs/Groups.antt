@@ -29,7 +29,8 @@ pub record Densest (N : Network) (G X : Depots) : Type 0 where
   pub candidate : Candidate N G X
   pub no-denser : (Y : Depots) → Candidate N G Y → litres N Y G * size N X ≤ litres N X G * size N Y
 
--- "Groups follow until every listed depot is in one." A group is the number of its set.
+-- "Groups follow until every listed depot is in one." A group is the number of its set. The sets G are source document 000's chain of locally-dense subgraphs, its
+-- Proposition 5: B_0 is empty, B_i is the densest subgraph properly containing B_(i-1), and the chain ends with all vertices, B_k = V, those without edges (document 02, h) too.
 unfoldable pub Follow : Network → Depots → List ℕ → Type 0
 Follow N G [] = N .listed ⊆ G
 Follow N G (g ∷ gs) = Next N G (has g) × Follow N (G ∪ has g) gs

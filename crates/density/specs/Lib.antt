@@ -3,4 +3,5 @@ pub mod Groups
 pub mod Plan
 pub mod Rows
 pub mod Figures
+pub mod Isolated
 pub mod Examples

@@ -1,4 +1,4 @@
--- Document 01, "Depots, sites, groups", and document 02, g): lists, the graph of a list, and the litres and the size of a set of depots.
+-- Document 01, "Depots, sites, groups", and document 02, g) and h): lists, the graph of a list, and the litres and the size of a set of depots.
 use mathlib.Core.Path.{_≡_}
 use mathlib.Core.Bool.{Bool, true, false, not, _&&_, _||_}
 use mathlib.Core.List.{List}
@@ -47,14 +47,29 @@ abbrev pub crewsOf : Option (List ℕ) → ℕ → ℕ
 crewsOf none d = 1
 crewsOf (some roll) d = getD roll d 0
 
--- "A depot is listed if some site names it": the one place where listed depots and crews arise.
+-- "A depot with crews in the roll is listed even without sites."
+abbrev pub enrolled : Option (List ℕ) → Depots
+enrolled none d = false
+enrolled (some roll) d = ltb d 64 && ltb 0 (getD roll d 0)
+
+-- "A depot is listed if some site names it", or if it has crews in the roll: the one place where listed depots and crews arise.
 unfoldable pub network : Listing → Network
 network l =
     record {
       count = length (l .sites);
       site = siteAt l;
-      listed = named l;
+      listed = named l ∪ enrolled (l .roll);
       crews = crewsOf (l .roll);
+    }
+
+-- Document 01's own graph of a list, before document 02, g) and h): "A depot is listed if some site names it", and a set's size is the number of its depots.
+unfoldable pub baseNetwork : List Site → Network
+baseNetwork sites =
+    record {
+      count = length sites;
+      site = λ i. getD sites i noSite;
+      listed = λ d. any (λ i. names (getD sites i noSite) d) (length sites);
+      crews = λ d. 1;
     }
 
 -- "A depot is a number from 0 to 63": so are the depots that the sites name.

@@ -1,5 +1,5 @@
-// Groups and plans by a plain count over all sets of depots, from document 01, "Depots, sites, groups", and document 02, g. It shares nothing with the engine but the
-// types of a list and of a plan. For lists of at most 16 sites whose depots are below 12; `is_small` says whether a list is one.
+// Groups and plans by a plain count over all sets of depots, from document 01, "Depots, sites, groups", and document 02, g and h. It shares nothing with the engine but the
+// types of a list and of a plan. For lists of at most 16 sites whose listed depots are below 12; `is_small` says whether a list is one.
 use density::Site;
 use records::ListArray;
 use records::PlanArray;
@@ -75,9 +75,23 @@ fn depots(site: Entry) -> u64 {
     site.first | site.second
 }
 
-// "A depot is listed if some site names it"
-fn listed(sites: [Entry; 16]) -> u64 {
+// The depots with crews in the roll; without a roll none.
+fn crewed(list: ListArray) -> u64 {
     let mut set: u64 = 0;
+    let roll = list.roll;
+    if roll.there {
+        for d in 0..64 {
+            if roll.crews[d] != 0 {
+                set = set | single(d as u8);
+            }
+        }
+    }
+    set
+}
+
+// "A depot is listed if some site names it", and by h) "A depot with crews in the roll is listed even without sites."
+fn listed(sites: [Entry; 16], crewed: u64) -> u64 {
+    let mut set = crewed;
     for i in 0..16 {
         set = set | depots(sites[i]);
     }
@@ -165,10 +179,10 @@ fn next_group(sites: [Entry; 16], crews: [u64; 12], free: u64, grouped: u64) -> 
 }
 
 // "Groups follow until every listed depot is in one."
-fn all_groups(sites: [Entry; 16], crews: [u64; 12]) -> Found {
+fn all_groups(sites: [Entry; 16], crews: [u64; 12], crewed: u64) -> Found {
     let mut sets = [0u64; 64];
     let mut count: usize = 0;
-    let mut free = listed(sites);
+    let mut free = listed(sites, crewed);
     let mut grouped: u64 = 0;
     for k in 0..16 {
         if free != 0 {
@@ -326,12 +340,12 @@ fn same_groups(plan: PlanArray, found: Found) -> bool {
     plan.count == found.count
 }
 
-// Has the list at most 16 sites, and are its depots below 12? Where not, the other functions count nothing.
+// Has the list at most 16 sites, and are its listed depots below 12? Where not, the other functions count nothing.
 pub fn is_small(list: ListArray) -> bool {
     if 16 < list.count {
         return false;
     }
-    listed(read(list)) < 4096
+    listed(read(list), crewed(list)) < 4096
 }
 
 // The groups of a small list, with all shares 0. For other lists no groups.
@@ -341,7 +355,7 @@ pub fn groups(list: ListArray) -> PlanArray {
         sets: [0; 64],
     };
     if is_small(list) {
-        found = all_groups(read(list), crews(list));
+        found = all_groups(read(list), crews(list), crewed(list));
     }
     let groups = found.sets;
     PlanArray {
@@ -372,7 +386,7 @@ pub fn is_true(list: ListArray, plan: PlanArray) -> bool {
     }
     let sites = read(list);
     let each = crews(list);
-    let found = all_groups(sites, each);
+    let found = all_groups(sites, each, crewed(list));
     if !same_groups(plan, found) {
         return false;
     }

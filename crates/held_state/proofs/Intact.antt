@@ -5,7 +5,7 @@ use mathlib.Core.Bool.{Bool, true, false, _&&_, _||_}
 use mathlib.Core.List.{List, [], _∷_, _++_}
 use mathlib.Core.Option.{Option, none}
 use Prim.Native.Nat.{ℕ, suc, _+_, _≤_, _<_}
-use native.Mathlib.Nat.{eq-or-lt-of-le}
+use native.Mathlib.Nat.{eq-zero-or-pos, eq-or-lt-of-le}
 use native.Mathlib.Omega.{arith}
 use lib.Dec.{T, eqb, ltb, eqb→eq, lt→ltb, ltb→lt, nltb→le, not-T}
 use lib.ListN.{length, getD, set, length-append, length-set, List·getD-append}
@@ -56,6 +56,12 @@ module _ (l : Listing) (g : Good l) where
       let a : x .first ≤ 63 = nltb→le 63 (x .first) (not-T (ltb 63 (x .first)) (k .0)) in
       let b : x .second ≤ 63 = nltb→le 63 (x .second) (not-T (ltb 63 (x .second)) (k .1)) in
       and-i (ltb (x .first) 64) (ltb (x .second) 64) (lt→ltb (x .first) 64 (omega arith)) (lt→ltb (x .second) 64 (omega arith)))
+
+  pub good-litres : (i : ℕ) → i < length (l .sites) → 0 < siteAt l i .litres
+  good-litres i m =
+      let x = siteAt l i in
+      let z = neither (ltb 63 (x .first) || ltb 63 (x .second)) (eqb (x .litres) 0) (g .sites i m) .1 in
+      ⊎-elim (λ e. absurd (z (eq→eqb (x .litres) 0 e))) (λ p. p) (eq-zero-or-pos (x .litres))
 
   pub good-crewed : sitesUncrewed l ≡ false
   unfolding sitesUncrewed

@@ -19,10 +19,10 @@ use Rattle.records.specs.Record.{records}
 use Rattle.records.specs.declared.Edition.{Edition}
 use Rattle.records.specs.Format.{edition1, edition2, readList, readPlan}
 use Rattle.records.specs.Write.{listBytes, planBytes}
-use Rattle.records.specs.Samples.{listT, planT, listBig, planBig, listRolled}
+use Rattle.records.specs.Samples.{listT, planT, listBig, planBig, listRolled, crewsOfFour, listOpened}
 use Rattle.judge.specs.Check.{checkRow, checkedRow}
 use Rattle.judge.specs.Examples.{exampleList, examplePlan}
-use Rattle.judge.specs.Refusals.{given, refusals, gets, plan2, share2, refusals2}
+use Rattle.judge.specs.Refusals.{group, planOf2, given, refusals, gets, plan2, share2, refusals2}
 
 -- for the plan of a starred list, in an edition
 abbrev starredRow : Edition → ℕ → Option ℕ
@@ -73,6 +73,15 @@ Big-passes = refl
 pub Rolled-passes : checkedRow listRolled (plan2 (share2 36)) ≡ none
 unfolding checkRow readList readPlan value records sum all any has weigh size network crewsAbove sitesUncrewed firstRow planRows groupsMeet groupsUnlisted sharesBroken shareBroken loadsUneven scaledLoad shareOf target groupsRise place union carrier groupSize groupLitres whole firstShare secondShare
 Rolled-passes = refl
+
+-- depots 2 and 3, which no site names, are the last group; and where there is no site at all, the only one
+pub Opened-passes : checkedRow listOpened (planOf2 (3 ∷ 12 ∷ []) (share2 36)) ≡ none
+unfolding checkRow readList readPlan value records sum all any has weigh size network crewsAbove sitesUncrewed firstRow planRows groupsMeet groupsUnlisted sharesBroken shareBroken loadsUneven scaledLoad shareOf target groupsRise place union carrier groupSize groupLitres whole firstShare secondShare
+Opened-passes = refl
+
+pub no-sites-pass : checkedRow (0x4C ∷ 0x32 ∷ 0x00 ∷ 0x00 ∷ 0x44 ∷ 0x52 ∷ crewsOfFour) (0x50 ∷ 0x32 ∷ 0x01 ∷ 0x00 ∷ 0x00 ∷ group 15 []) ≡ none
+unfolding checkRow readList readPlan value records sum all any has weigh size network crewsAbove sitesUncrewed firstRow planRows groupsMeet groupsUnlisted sharesBroken shareBroken loadsUneven scaledLoad shareOf target groupsRise place union carrier groupSize groupLitres whole firstShare secondShare
+no-sites-pass = refl
 
 -- the row of one of them, by the list's edition
 abbrev row2 : ℕ → Option ℕ

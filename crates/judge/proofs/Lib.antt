@@ -5,3 +5,4 @@ pub mod Widths
 pub mod Examples
 pub mod Contracts
 pub mod Ones
+pub mod Isolated

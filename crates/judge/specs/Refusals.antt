@@ -1,8 +1,9 @@
--- Document 01, "When the gate stays shut": the examples of rows 1 to 16, as bytes. Document 02, c: rows of its longer records; g: rows of rolls.
+-- Document 01, "When the gate stays shut": the examples of rows 1 to 16, as bytes. Document 02, c: rows of its longer records; g: rows of rolls; h: rows of
+-- depots without sites.
 use mathlib.Core.List.{List, [], _∷_}
 use Prim.Native.Nat.{ℕ}
-use lib.ListN.{replicate}
-use Rattle.records.specs.Samples.{listT, planT, listBig, planBig, listWith, listRolled}
+use lib.ListN.{length, replicate}
+use Rattle.records.specs.Samples.{listT, planT, listBig, planBig, listWith, listRolled, listOpened}
 
 -- what Check is given
 pub record Given : Type 0 where
@@ -74,18 +75,25 @@ pub record Refusal : Type 0 where
 abbrev pub gets : ℕ → List ℕ → List ℕ → Refusal
 gets n list plan = record { row = n; given = given list plan }
 
--- Document 02, c: "List edition 2 begins 4C 32", "Plan edition 2 begins 50 32"; here one site and one group
+-- Document 02, c: "List edition 2 begins 4C 32", "Plan edition 2 begins 50 32"; here one site, and groups of depots below 8
 abbrev pub head2 : List ℕ → List ℕ
 head2 rest = 0x4C ∷ 0x32 ∷ 0x01 ∷ 0x00 ∷ rest
 
+abbrev pub groups2 : List ℕ → List ℕ → List ℕ
+groups2 [] rest = rest
+groups2 (g ∷ gs) rest = group g (groups2 gs rest)
+
+abbrev pub planOf2 : List ℕ → List ℕ → List ℕ
+planOf2 gs rest = 0x50 ∷ 0x32 ∷ length gs ∷ 0x01 ∷ 0x00 ∷ groups2 gs rest
+
 abbrev pub plan2 : List ℕ → List ℕ
-plan2 rest = 0x50 ∷ 0x32 ∷ 0x01 ∷ 0x01 ∷ 0x00 ∷ group 3 rest
+plan2 = planOf2 (3 ∷ [])
 
 -- s, below 256, in 8 bytes
 abbrev pub share2 : ℕ → List ℕ
 share2 x = 0x53 ∷ 0x33 ∷ x ∷ 0x00 ∷ 0x00 ∷ 0x00 ∷ 0x00 ∷ 0x00 ∷ 0x00 ∷ 0x00 ∷ []
 
--- one site of 70,000 litres (`listBig`) and its plan, changed; then one of 12 litres between depots of three crews and one (`listRolled`), changed
+-- one site of 70,000 litres (`listBig`) and its plan, changed; then one of 12 litres between depots of three crews and one (`listRolled`), changed; then the same with depots without sites (`listOpened`)
 unfoldable pub refusals2 : List Refusal
 refusals2 =
     -- a list of neither edition
@@ -117,4 +125,10 @@ refusals2 =
     ∷ gets 23 (listWith (0x44 ∷ 0x52 ∷ 3 ∷ 0 ∷ replicate 62 1)) []
     -- s = 24 of 48, where three crews are to have 36
     ∷ gets 15 listRolled (plan2 (share2 24))
+    -- depots 2 and 3 have crews and no site (`listOpened`): left out, one of them left out, each in a group of its own, joined to the group before, in a group before it
+    ∷ gets 13 listOpened (plan2 (share2 36))
+    ∷ gets 13 listOpened (planOf2 (3 ∷ 4 ∷ []) (share2 36))
+    ∷ gets 16 listOpened (planOf2 (3 ∷ 4 ∷ 8 ∷ []) (share2 36))
+    ∷ gets 15 listOpened (planOf2 (15 ∷ []) (share2 63))
+    ∷ gets 16 listOpened (planOf2 (12 ∷ 3 ∷ []) (share2 36))
     ∷ []

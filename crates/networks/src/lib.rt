@@ -53,6 +53,17 @@ pub fn with_crews(list: ListArray, crews: [u8; 64]) -> ListArray {
     }
 }
 
+// The list with a roll of as many crews at each depot below n, and none at the others.
+pub fn with_crews_below(list: ListArray, n: usize, each: u8) -> ListArray {
+    let mut crews = [0u8; 64];
+    for d in 0..64 {
+        if d < n {
+            crews[d] = each;
+        }
+    }
+    with_crews(list, crews)
+}
+
 // The plan without groups, all shares 0.
 pub fn no_groups() -> PlanArray {
     PlanArray {
@@ -237,19 +248,61 @@ fn some_crews(x: u64) -> u8 {
     }
 }
 
-// The list with the k-th pseudo-random roll of a seed: 1 to 9 crews at depots 0 to 11, and none at the others.
-pub fn rolled(list: ListArray, seed: u64, k: u64) -> ListArray {
+// Does a site name the depot?
+fn is_named(list: ListArray, depot: u8) -> bool {
+    for i in 0..512 {
+        if list.count <= i {
+            return false;
+        }
+        let site = list.sites[i];
+        if site.first == depot || site.second == depot {
+            return true;
+        }
+    }
+    false
+}
+
+// Has a depot that no site names crews? By choice none has, one of four, every second, or all.
+fn is_chosen(x: u64, choice: u64) -> bool {
+    match choice {
+        0 => false,
+        1 => below(x, 4) == 0,
+        2 => below(x, 2) == 0,
+        _ => true,
+    }
+}
+
+// The list with the k-th pseudo-random roll of a seed: 1 to 9 crews at each depot that a site names, and at none, some or all of the others below `most`.
+pub fn rolled(list: ListArray, most: usize, seed: u64, k: u64) -> ListArray {
     let mut x = start(seed, k);
+    let choice = below(x, 4);
     let mut crews = [0u8; 64];
-    for d in 0..12 {
-        x = next(next(x));
-        crews[d] = some_crews(x);
+    for d in 0..64 {
+        x = next(next(next(x)));
+        let more = d < most && is_chosen(next(next(x)), choice);
+        if more || is_named(list, d as u8) {
+            crews[d] = some_crews(x);
+        }
     }
     with_crews(list, crews)
 }
 
+// The set of the depots with crews that no site names.
+pub fn isolated(list: ListArray) -> u64 {
+    let mut set: u64 = 0;
+    let roll = list.roll;
+    if roll.there {
+        for d in 0..64u8 {
+            if roll.crews[d as usize] != 0 && !is_named(list, d) {
+                set = set | (1 << d);
+            }
+        }
+    }
+    set
+}
+
 // The group at place p, empty where the plan has none.
-fn group_at(plan: PlanArray, p: usize) -> u64 {
+pub fn group_at(plan: PlanArray, p: usize) -> u64 {
     if p < 64 {
         return plan.groups[p];
     }

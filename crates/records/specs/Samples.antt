@@ -56,3 +56,17 @@ listRolled = listWith (0x44 ∷ 0x52 ∷ crewsThreeOne)
 -- one group of both depots with W = 12 and q = 4, and s = 36 of 48: depot 0 brings three times what depot 1 brings
 abbrev pub planOfRolled : Plan
 planOfRolled = record { groups = 3 ∷ []; shares = 36 ∷ [] }
+
+-- Document 02, h: the same site and crews, and two crews of depot 2 and one of depot 3, which no site names
+abbrev pub crewsOfFour : List ℕ
+crewsOfFour = 3 ∷ 1 ∷ 2 ∷ 1 ∷ replicate 60 0
+
+abbrev pub Opened : Listing
+Opened = record { sites = Rolled .sites; roll = some crewsOfFour }
+
+abbrev pub listOpened : List ℕ
+listOpened = listWith (0x44 ∷ 0x52 ∷ crewsOfFour)
+
+-- the group {0,1} as before, and {2,3} behind it with W = 0 and q = 3
+abbrev pub planOfOpened : Plan
+planOfOpened = record { groups = 3 ∷ 12 ∷ []; shares = 36 ∷ [] }

@@ -1,4 +1,4 @@
--- T, two own sites of 4, two sites of one pair, thresholds, lists written out, edition 2, T gone over to edition 2, and crews: histories with their replies, the rows of every call among them, and replies of wrong stores, which no model gives. Assumes nothing.
+-- T, two own sites of 4, two sites of one pair, thresholds, lists written out, edition 2, T gone over to edition 2, crews, and depots without sites: histories with their replies, the rows of every call among them, and replies of wrong stores, which no model gives. Assumes nothing.
 use mathlib.Core.Path.{_≡_, refl, sym, ap, ap₂, _∙_}
 use mathlib.Core.Logic.{inl, inr, ⊎-elim}
 use mathlib.Core.Bool.{Bool, true, _&&_}
@@ -30,7 +30,7 @@ use Rattle.records.specs.Values.{Plan}
 use Rattle.records.specs.declared.Edition.{Edition}
 use Rattle.records.specs.Format.{edition1, edition2, planOf}
 use Rattle.records.specs.Write.{listBytes, planBytes, Marked}
-use Rattle.records.specs.Samples.{listT, planT, listBig, planBig, crewsThreeOne, Rolled, listWith, listRolled}
+use Rattle.records.specs.Samples.{listT, planT, listBig, planBig, crewsThreeOne, Rolled, listWith, listRolled, Opened, listOpened}
 use Rattle.records.proofs.Samples.{marked1, marked2}
 use Rattle.store.specs.declared.Request.{Request}
 use Rattle.store.specs.declared.Request.the-variants.{Load, Change, Add, Propose, Share, Depot, Difference, Written, AtLeast, ListWritten}
@@ -39,7 +39,7 @@ use Rattle.judge.specs.Check.{True}
 use Rattle.store.specs.Model.{Model, emptyModel, Proposes, Says, Follows, turned, turn, modelRows, proposalRows}
 use Rattle.held_state.specs.Held.{State}
 use Rattle.store.specs.State.{modelOf, fresh}
-use Rattle.store.specs.Examples.{call, events, reply, plain, modelBy, model, plansT, callsT, repliesT, sitesT, loadedT, plannedT, listO, callsO, repliesO, sitesO, loadedO, plannedO, listP, planP, callsP, repliesP, sitesP, loadedP, plannedP, callsR, repliesR, listM, planM, callsM, repliesM, sitesM, loadedM, plannedM, thresholdsM, setsM, listL, callsL, repliesL, addedL, callsB, listB, repliesB, sitesB, loadedB, plannedB, addedB, listE, planE, afterE, eventsE, repliesE, overT, addedE, planC, listCrewed, callsC, listC, repliesC, loadedC, plannedC, addedC, unrolledC, nth, nthBuffer}
+use Rattle.store.specs.Examples.{call, events, reply, plain, modelBy, model, plansT, callsT, repliesT, sitesT, loadedT, plannedT, listO, callsO, repliesO, sitesO, loadedO, plannedO, listP, planP, callsP, repliesP, sitesP, loadedP, plannedP, callsR, repliesR, listM, planM, callsM, repliesM, sitesM, loadedM, plannedM, thresholdsM, setsM, listL, callsL, repliesL, addedL, callsB, listB, repliesB, sitesB, loadedB, plannedB, addedB, listE, planE, afterE, eventsE, repliesE, overT, addedE, planC, listCrewed, callsC, listC, repliesC, loadedC, plannedC, addedC, unrolledC, planH, callsH, repliesH, loadedH, plannedH, addedH, nth, nthBuffer}
 use Rattle.store.specs.Trace.{Run, start, then, History, Modelled, AllBytes, traced, trace}
 use Rattle.store.proofs.Plans.{true-of-rows, rows-of-true}
 use Rattle.store.proofs.OneModel.{one-model}
@@ -607,6 +607,96 @@ modelled-C =
     (next accepts-C
     (next depot-C (next shares-C (next add-23 (next adds-C (next wants-C (next added-C-out (next loads-unrolled start)))))))))))
 
+-- ---- depots without sites
+
+loads-H : turned loadedH (reply done []) ≡ turn emptyB (call Load listOpened [])
+unfolding firstRow value records any crewsAbove sitesUncrewed
+loads-H = refl
+
+in-range-H : T (inRange Opened)
+unfolding inRange depotsInRange crewsAbove sitesUncrewed all any
+in-range-H = tt
+
+left-out-H : firstRow (modelRows loadedH (call Propose (planH (3 ∷ []) 36) [])) ≡ some 13
+unfolding firstRow value records sum any has weigh size network planRows groupsMeet groupsUnlisted sharesBroken shareBroken loadsUneven scaledLoad shareOf target groupsRise place union carrier groupSize groupLitres whole firstShare secondShare
+left-out-H = refl
+
+alone-H : firstRow (modelRows loadedH (call Propose (planH (3 ∷ 4 ∷ 8 ∷ []) 36) [])) ≡ some 16
+unfolding firstRow value records sum any has weigh size network planRows groupsMeet groupsUnlisted sharesBroken shareBroken loadsUneven scaledLoad shareOf target groupsRise place union carrier groupSize groupLitres whole firstShare secondShare
+alone-H = refl
+
+joined-H : firstRow (modelRows loadedH (call Propose (planH (15 ∷ []) 63) [])) ≡ some 15
+unfolding firstRow value records sum any has weigh size network planRows groupsMeet groupsUnlisted sharesBroken shareBroken loadsUneven scaledLoad shareOf target groupsRise place union carrier groupSize groupLitres whole firstShare secondShare
+joined-H = refl
+
+-- a proposal to it that a row refuses
+refuses-H : (s : List ℕ) (n : ℕ) → firstRow (modelRows loadedH (call Propose s [])) ≡ some n → Proposes loadedH (call Propose s []) (reply (refused n) []) loadedH
+refuses-H s n = refuses edition2 marked2 Opened none s n in-range-H (lit≤ tt)
+
+true-H : True edition2 Opened (planOf edition2 1 (planH (3 ∷ 12 ∷ []) 36)) (planH (3 ∷ 12 ∷ []) 36)
+unfolding all firstRow value records sum any has weigh size network planRows groupsMeet groupsUnlisted sharesBroken shareBroken loadsUneven scaledLoad shareOf target groupsRise place union carrier groupSize groupLitres whole firstShare secondShare
+true-H = true-of-rows edition2 Opened (valid Opened in-range-H) (planH (3 ∷ 12 ∷ []) 36) (are-bytes (planH (3 ∷ 12 ∷ []) 36) tt) refl
+
+accepts-H : Proposes loadedH (call Propose (planH (3 ∷ 12 ∷ []) 36) []) (reply done []) plannedH
+unfolding value records
+accepts-H = inl (planOf edition2 1 (planH (3 ∷ 12 ∷ []) 36), true-H, refl, refl)
+
+groups-H : Decomposition (network Opened) (3 ∷ 12 ∷ [])
+unfolding value records
+groups-H = true-H .groups
+
+-- W and q of its depots
+litres-H : (d : ℕ) → groupLitres (network Opened) (3 ∷ 12 ∷ []) (place (3 ∷ 12 ∷ []) d) ≡ depotLitres (network Opened) d
+litres-H = depot-litres (network Opened) (valid Opened in-range-H) (3 ∷ 12 ∷ []) groups-H
+
+sizes-H : (d : ℕ) → groupSize (network Opened) (3 ∷ 12 ∷ []) (place (3 ∷ 12 ∷ []) d) ≡ depotSize (network Opened) d
+sizes-H = depot-size (network Opened) (valid Opened in-range-H) (3 ∷ 12 ∷ []) groups-H
+
+depot-H : turned plannedH (reply (loaded 0 3) []) ≡ turn plannedH (call (Depot 2) [] [])
+unfolding firstRow network any sum has weigh size place carrier groupSize groupLitres
+depot-H = ap₂ (λ (w q : ℕ). turned plannedH (reply (loaded w q) [])) (litres-H 2) (sizes-H 2)
+
+depot-19-H : Leaves plannedH (Depot 4) [] 19
+unfolding firstRow network any
+depot-19-H = refl
+
+difference-H : turned plannedH (reply (differ (pos 36) 12) []) ≡ turn plannedH (call (Difference 0 3) [] [])
+unfolding firstRow network any sum has weigh size place carrier groupSize groupLitres difference divisor
+difference-H =
+    ap₂ (λ (a b : ℕ × ℕ). turned plannedH (reply (differ (differenceOf (a .0) (a .1) (b .0) (b .1)) (a .1 * b .1)) []))
+    (ap₂ (λ (w q : ℕ). (w, q)) (litres-H 0) (sizes-H 0)) (ap₂ (λ (w q : ℕ). (w, q)) (litres-H 3) (sizes-H 3))
+
+-- the model's answer to a threshold, by the groups of the plan
+reaches-H : (m x : ℕ) → setOf (depotsRead (network Opened) (3 ∷ 12 ∷ []) m) 64 ≡ x → turned plannedH (reply (reached x) []) ≡ turn plannedH (call (AtLeast m) [] [])
+unfolding firstRow
+reaches-H m x e = ap (λ (y : ℕ). turned plannedH (reply (reached y) [])) (sym e ∙ read-is (network Opened) (valid Opened in-range-H) (3 ∷ 12 ∷ []) groups-H m)
+
+zero-H : setOf (depotsRead (network Opened) (3 ∷ 12 ∷ []) 0) 64 ≡ 15
+unfolding setOf union has groupsRead lowest network sum weigh size place carrier groupSize groupLitres
+zero-H = refl
+
+three-H : setOf (depotsRead (network Opened) (3 ∷ 12 ∷ []) 3) 64 ≡ 3
+unfolding setOf union has groupsRead lowest network sum weigh size place carrier groupSize groupLitres
+three-H = refl
+
+adds-H : turned addedH (reply done []) ≡ turn plannedH (call (Add 2 2 5) [] [])
+unfolding firstRow
+adds-H = refl
+
+wants-H : Leaves addedH (Depot 2) [] 17
+unfolding firstRow
+wants-H = refl
+
+modelled-H : Modelled edition2 2 (events callsH) repliesH addedH
+modelled-H =
+    next loads-H
+    (next (refuses-H (planH (3 ∷ []) 36) 13 left-out-H)
+    (next (refuses-H (planH (3 ∷ 4 ∷ 8 ∷ []) 36) 16 alone-H)
+    (next (refuses-H (planH (15 ∷ []) 63) 15 joined-H)
+    (next accepts-H
+    (next depot-H
+    (next depot-19-H (next difference-H (next (reaches-H 0 15 zero-H) (next (reaches-H 3 3 three-H) (next adds-H (next wants-H start)))))))))))
+
 -- ---- the store's history has these replies
 
 -- what the model answers, the store answers on any table of two places
@@ -653,6 +743,10 @@ history-E x y z =
 pub history-C : (x y : Site) → (s : State) × History edition2 (x ∷ y ∷ []) (events callsC) repliesC s × (modelOf s ≡ unrolledC)
 unfolding inputs all
 history-C = has-history marked2 (events callsC) repliesC unrolledC modelled-C (are-all callsC tt)
+
+pub history-H : (x y : Site) → (s : State) × History edition2 (x ∷ y ∷ []) (events callsH) repliesH s × (modelOf s ≡ addedH)
+unfolding inputs all
+history-H = has-history marked2 (events callsH) repliesH addedH modelled-H (are-all callsH tt)
 
 -- the proposal that passed last, by these calls and replies, on a table of any places: of T its plan, of the own sites none after the change, of the pair the second, of the lists
 -- written out none after a site was added
@@ -831,3 +925,28 @@ module _ (rs : List Reply) (b : Model) (run : Modelled edition2 2 (events callsC
   -- the list written out has its roll
   pub roll-out : (nth 10 rs ≡ wrote 86) × (nthBuffer 10 rs ≡ listC ++ (7 ∷ []))
   roll-out = (sym (is-C 10), sym (ap (nthBuffer 10) (one-model modelled-C run .0)))
+
+module _ (rs : List Reply) (b : Model) (run : Modelled edition2 2 (events callsH) rs b) where
+  is-H : (i : ℕ) → nth i repliesH ≡ nth i rs
+  is-H i = ap (nth i) (one-model modelled-H run .0)
+
+  -- depots without sites left out, each in a group of its own, and joined to the group before
+  pub not-left-out : nth 1 rs ≡ done → ⊥
+  not-left-out h = let e : refused 13 ≡ done = is-H 1 ∙ h in let z : _≡_ {A = ℕ} 0 1 = cc in omega arith
+
+  pub not-each-alone : nth 2 rs ≡ done → ⊥
+  not-each-alone h = let e : refused 16 ≡ done = is-H 2 ∙ h in let z : _≡_ {A = ℕ} 0 1 = cc in omega arith
+
+  pub not-joined : nth 3 rs ≡ done → ⊥
+  not-joined h = let e : refused 15 ≡ done = is-H 3 ∙ h in let z : _≡_ {A = ℕ} 0 1 = cc in omega arith
+
+  -- such a depot is listed, with W 0 and the crews of all of them
+  pub not-unlisted : (n : ℕ) → nth 5 rs ≡ refused n → ⊥
+  not-unlisted n h = let e : loaded 0 3 ≡ refused n = is-H 5 ∙ h in let z : _≡_ {A = ℕ} 0 1 = cc in omega arith
+
+  pub not-its-own-crews : (w q : ℕ) → nth 5 rs ≡ loaded w q → (w ≡ 0) × (q ≡ 3)
+  not-its-own-crews w q h = let e : loaded 0 3 ≡ loaded w q = is-H 5 ∙ h in (cc, cc)
+
+  -- "a mark of 0 gives all listed depots"
+  pub not-without-them : (x : ℕ) → nth 8 rs ≡ reached x → x ≡ 15
+  not-without-them x h = let e : reached 15 ≡ reached x = is-H 8 ∙ h in cc

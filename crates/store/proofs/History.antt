@@ -1,21 +1,25 @@
 -- Demand 3: whatever calls a fresh store gets, and wherever it goes over to edition 2, it answers as the model does, and holds what the model holds. Assumes nothing.
-use mathlib.Core.Path.{_≡_, refl, sym, ap, _∙_, subst}
+use mathlib.Core.Path.{_≡_, refl, sym, ap, ap₂, _∙_, subst}
 use mathlib.Core.Logic.{_↔_, inl, inr}
-use mathlib.Core.Bool.{Bool, true, false, cond, _||_, true≢false}
+use mathlib.Core.Bool.{Bool, true, false, not, cond, _||_, true≢false}
 use mathlib.Core.List.{List, [], _∷_, _++_, map}
 use mathlib.Core.Option.{Option, none, some, Option·none-ne-some}
 use Prim.Native.Nat.{ℕ, _*_}
 use native.Mathlib.Omega.{arith}
-use lib.Dec.{leb}
+use lib.Dec.{T, leb}
 use lib.IntN.{ℤ}
 use lib.ListN.{getD, replicate, length-replicate}
 use Rattle.sets.specs.Set.{_⊆_, has, setOf}
+use Rattle.sets.proofs.Test.{is-true}
 use Rattle.density.specs.declared.Site.{Site}
-use Rattle.density.specs.Network.{Listing, Network, network, noSite}
-use Rattle.density.specs.Groups.{Decomposition}
+use Rattle.density.specs.Network.{Listing, Network, network, noSite, size}
+use Rattle.density.specs.Groups.{Decomposition, groupsOf}
 use Rattle.density.specs.Plan.{place, groupLitres, groupSize, whole}
 use Rattle.density.specs.Rows.{firstRow}
 use Rattle.density.specs.Figures.{depotLitres, depotSize, siteWhole, difference, divisor, differenceOf, atLeast, atLeastBy}
+use Rattle.density.specs.Isolated.{isolated, IsolatedLast}
+use Rattle.density.proofs.Existence.{computed}
+use Rattle.density.proofs.Isolated.{isolated-listed, isolated-last}
 use Rattle.density.proofs.Figures.{depot-litres, depot-size, site-whole}
 use Rattle.density.proofs.AtLeast.{by-is, every-is, at-least-zero, at-least-fewer}
 use Rattle.records.specs.declared.Edition.{Edition}
@@ -32,7 +36,7 @@ use Rattle.held_state.specs.Held.{State, planHeld, listOf, corrupt}
 use Rattle.store.specs.State.{Done, modelOf, fresh, effectOf, settle, step, stepOn}
 use Rattle.store.specs.Trace.{Run, start, then, Steps, Goes, History, Modelled, AllPossible, InBytes, AllBytes, Proposal, MadeIn, Traced, traced, begun, trace, proposedPlan, planFrom, writtenAs, Question, Exact, SameFigures}
 use Rattle.store.proofs.Rules.{granted-not-refused}
-use Rattle.store.proofs.Steps.{Holds, holds-valid, Fed, fresh-holds, row-zero-off, kept}
+use Rattle.store.proofs.Steps.{Holds, holds-valid, holds-litres, Fed, fresh-holds, row-zero-off, kept}
 use Rattle.store.proofs.LastPassed.{backed-from, backed-true, none-from}
 use Rattle.store.proofs.Migrate.{Agrees, goes-on, gone-on, migration-or-row-2, each-held, none-held}
 use Rattle.store.proofs.SameAnswers.{same-through}
@@ -148,6 +152,15 @@ module _ (b : Model) (c : Call) (r : Reply) (b' : Model) where
   unfolding firstRow
   reached-is m k e = e ∙ ap (λ (o : Option Plan). answerTo (AtLeast m) (cond (missing o) (some 17) none)) k
 
+  -- with a plan no row refuses a question about a listed depot
+  loaded-at : (d : ℕ) {p : Plan} → b .plan ≡ some p → T (network (b .list) .listed d) → r .answer ≡ answerTo (Depot d) (firstRow (rowsOf b c (Depot d)))
+      → r .answer ≡ loaded (depotLitres (network (b .list)) d) (depotSize (network (b .list)) d)
+  unfolding firstRow
+  loaded-at d k t e =
+      e
+      ∙ ap (λ (o : Option Plan). answerTo (Depot d) (cond (missing o) (some 17) (cond (unlisted b d) (some 19) none))) k
+      ∙ ap (λ (l : Bool). answerTo (Depot d) (cond (not l) (some 19) none)) (is-true (network (b .list) .listed d) t)
+
   proposed : Proposes b c r b' → (r .answer ≡ done) ↔ ((p : Plan) × True (b .edition) (b .list) p (c .input))
   proposed (inl (p, t, x, y)) = (λ e. (p, t), λ e. ap (λ (r : Reply). r .answer) x)
   proposed (inr (never, n, e, x, y)) =
@@ -203,6 +216,10 @@ module _ {e : Edition} (m : Marked e) {table : List Site} {events : List Event} 
       differ-is b c r (modelOf s') y d z q (firstRow (rowsOf b c (Difference y d)))
       (answer-to b c r (modelOf s') (Difference y d) k (says-to c r s' (Difference y d) k tt x)) a
 
+  -- the depots without sites, where every site has litres
+  isolated-held : (gs : List ℕ) → Decomposition (network (b .list)) gs → IsolatedLast (network (b .list)) gs
+  isolated-held gs dec = isolated-last (network (b .list)) (holds-valid s (final .holds)) gs dec (holds-litres s (final .holds))
+
   -- the plan held is that of the proposal that passed last
   abbrev last : Option Proposal
   last = trace e table events replies .proposal
@@ -244,6 +261,16 @@ module _ {e : Edition} (m : Marked e) {table : List Site} {events : List Event} 
       let (p, l, q) = held-last c r s' (AtLeast n) k tt x a tt in
       let z = reached-says c n r s' p k x l in
       cc
+
+  isolated-says : (c : Call) (d : ℕ) (r : Reply) (s' : State) (p : Proposal) → c .request ≡ Depot d → Steps s c r s' → last ≡ some p
+      → T (isolated (network (b .list)) d) → r .answer ≡ loaded 0 (size (network (b .list)) (isolated (network (b .list))))
+  unfolding depotLitres depotSize
+  isolated-says c d r s' p k x l t =
+      let N = network (b .list) in
+      let ok = holds-valid s (final .holds) in
+      let last = isolated-held (groupsOf N) (computed N ok) in
+      let e = loaded-at b c r (modelOf s') d (plan-held ∙ ap (planFrom (count b)) l) (isolated-listed N d t) (answer-to b c r (modelOf s') (Depot d) k (says-to c r s' (Depot d) k tt x)) in
+      e ∙ ap₂ loaded (last .litres d t) (last .sizes d t)
 
   -- "the book's plan stands at the front of the buffer byte for byte"
   plan-out : (c : Call) (r : Reply) (s' : State) (p : Proposal) → c .request ≡ Written → Steps s c r s' → last ≡ some p
@@ -295,6 +322,8 @@ module _ {e : Edition} (m : Marked e) {table : List Site} {events : List Event} 
         list-written-out = λ c r s' k x. list-replies s (final .holds .intact) c r s' k x;
         migration = migration-or-row-2 s (final .holds .intact) (each-held s (final .holds)) (none-held s (final .holds));
         same-answers = same-through s (final .holds .intact) (each-held s (final .holds)) (none-held s (final .holds));
+        isolated-last = isolated-held;
+        isolated-figures = isolated-says;
       }
 
 -- the store's edition has marks of two bytes, as the one it began with

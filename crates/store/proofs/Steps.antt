@@ -39,7 +39,7 @@ use Rattle.store.specs.State.{Done, modelOf, triesZero, bare, fresh, hol
 use Rattle.store.specs.Trace.{Steps, Tidy, rollLeft}
 use Rattle.store.proofs.Rules.{none-both, first-both, never-row-zero, granted-not-refused, zero-answer}
 use Rattle.store.proofs.Plans.{formed, true-of-rows, rows-of-true}
-use Rattle.held_state.proofs.Intact.{neither, or-not, Good, listing, good-valid, good-set, good-add, read-list, Intact, sized, intact→, →intact}
+use Rattle.held_state.proofs.Intact.{neither, or-not, Good, listing, good-valid, good-litres, good-set, good-add, read-list, Intact, sized, intact→, →intact}
 
 pub both-true : (a b : Bool) → a && b ≡ true → (a ≡ true) × (b ≡ true)
 both-true true b k = (refl, k)
@@ -69,6 +69,11 @@ read-whole e s = by (rolled e s) refl
 
 pub holds-valid : (s : State) → Holds s → Valid (network (listOf s))
 holds-valid s h = good-valid (listOf s) (intact→ s (h .intact) .good)
+
+-- and every site has litres
+pub holds-litres : (s : State) → Holds s → (i : ℕ) → i < network (listOf s) .count → 0 < network (listOf s) .site i .litres
+unfolding network
+holds-litres s h = good-litres (listOf s) (intact→ s (h .intact) .good)
 
 -- A step that is the model's and keeps that.
 pub record Kept (s : State) (c : Call) (d : Done) : Type 0 where

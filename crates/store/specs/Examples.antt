@@ -1,5 +1,6 @@
 -- Document 01: histories of T, of two own sites of 4 and of two sites of one pair on a table of two places, with their replies, the rows of every call
--- among them. Document 02, a: a history of thresholds; b: one of lists written out; c: one of edition 2; e: one that goes over to edition 2; g: one of crews.
+-- among them. Document 02, a: a history of thresholds; b: one of lists written out; c: one of edition 2; e: one that goes over to edition 2; g: one of crews; h: one of
+-- depots without sites.
 use mathlib.Core.List.{List, [], _∷_, _++_, map}
 use mathlib.Core.Option.{Option, none, some}
 use Prim.Native.Nat.{ℕ}
@@ -11,8 +12,8 @@ use Rattle.density.specs.Examples.{pair, own}
 use Rattle.records.specs.Values.{Plan}
 use Rattle.records.specs.declared.Edition.{Edition}
 use Rattle.records.specs.Format.{edition1, edition2}
-use Rattle.records.specs.Samples.{listT, planT, listBig, planBig, crewsThreeOne, Rolled, listWith, listRolled, planOfRolled}
-use Rattle.judge.specs.Refusals.{group, share, plan2, share2}
+use Rattle.records.specs.Samples.{listT, planT, listBig, planBig, crewsThreeOne, Rolled, listWith, listRolled, planOfRolled, crewsOfFour, Opened, listOpened, planOfOpened}
+use Rattle.judge.specs.Refusals.{group, share, plan2, planOf2, share2}
 use Rattle.store.specs.declared.Request.{Request}
 use Rattle.store.specs.declared.Request.the-variants.{Load, Change, Add, Propose, Share, Depot, Difference, Written, AtLeast, ListWritten}
 use Rattle.store.specs.Calls.{Call, Event, called, migrate, Reply, Told, unbuffered, refused, done, shared, loaded, differ, wrote, reached}
@@ -413,6 +414,53 @@ addedC = modelBy edition2 (record { sites = pair 0 1 12 ∷ pair 0 1 5 ∷ []; r
 -- the list without a roll
 abbrev pub unrolledC : Model
 unrolledC = modelBy edition2 (plain (Rolled .sites)) none
+
+-- ---- depots without sites: the same site, and crews of depots 2 and 3, which no site names
+
+abbrev pub planH : List ℕ → ℕ → List ℕ
+planH gs x = planOf2 gs (share2 x)
+
+-- Depots 2 and 3 left out, each in a group of its own, and joined to the group before. Depot 4 has no crew. Each listed depot reaches 0, and those with sites 3. A site that names depot 2 leaves no plan.
+abbrev pub callsH : List Call
+callsH =
+    call Load listOpened []
+    ∷ call Propose (planH (3 ∷ []) 36) []
+    ∷ call Propose (planH (3 ∷ 4 ∷ 8 ∷ []) 36) []
+    ∷ call Propose (planH (15 ∷ []) 63) []
+    ∷ call Propose (planH (3 ∷ 12 ∷ []) 36) []
+    ∷ call (Depot 2) [] []
+    ∷ call (Depot 4) [] []
+    ∷ call (Difference 0 3) [] []
+    ∷ call (AtLeast 0) [] []
+    ∷ call (AtLeast 3) [] []
+    ∷ call (Add 2 2 5) [] []
+    ∷ call (Depot 2) [] []
+    ∷ []
+
+abbrev pub repliesH : List Reply
+repliesH =
+    reply done []
+    ∷ reply (refused 13) []
+    ∷ reply (refused 16) []
+    ∷ reply (refused 15) []
+    ∷ reply done []
+    ∷ reply (loaded 0 3) []
+    ∷ reply (refused 19) []
+    ∷ reply (differ (pos 36) 12) []
+    ∷ reply (reached 15) []
+    ∷ reply (reached 3) []
+    ∷ reply done []
+    ∷ reply (refused 17) []
+    ∷ []
+
+abbrev pub loadedH : Model
+loadedH = modelBy edition2 Opened none
+
+abbrev pub plannedH : Model
+plannedH = modelBy edition2 Opened (some planOfOpened)
+
+abbrev pub addedH : Model
+addedH = modelBy edition2 (record { sites = pair 0 1 12 ∷ own 2 5 ∷ []; roll = some crewsOfFour }) none
 
 -- the answer to the i-th call, and its buffer
 abbrev pub nth : ℕ → List Reply → Told

@@ -1,7 +1,11 @@
-// Check and Make beside the plain count over all sets: every small list, and random ones, without a roll and with one.
+// Check and Make beside the plain count over all sets: every small list, and random ones, without a roll and with one, with isolated depots and without. Then lists with more
+// isolated depots than the count takes.
 use exhaustive::has_groups;
+use exhaustive::is_small;
 use exhaustive::is_true;
 use libc::STDOUT_FILENO;
+use networks::group_at;
+use networks::isolated;
 use networks::random;
 use networks::rolled;
 use networks::small;
@@ -97,8 +101,20 @@ fn added(t: Tally, passed: bool, found: bool) -> Tally {
     }
 }
 
-// One plan: the check passes it exactly if the count finds it true.
-fn judged(t: Tally, list: ListArray, bytes: &[u8], plan: PlanArray) -> Tally {
+fn same_groups(a: PlanArray, b: PlanArray) -> bool {
+    for k in 0..64 {
+        if a.groups[k] != b.groups[k] {
+            return false;
+        }
+    }
+    a.count == b.count
+}
+
+// One plan: the check passes it exactly if the count finds it true. Of a list that the count cannot take, plans with other groups than Make's are judged: none is true.
+fn judged(t: Tally, list: ListArray, bytes: &[u8], made: PlanArray, plan: PlanArray) -> Tally {
+    if !is_small(list) && same_groups(made, plan) {
+        return t;
+    }
     let said = checked(list, bytes, plan);
     if said == 2 {
         return t;
@@ -128,14 +144,14 @@ fn near_misses(t: Tally, list: ListArray, bytes: &[u8], plan: PlanArray, from: u
     for i in 0..80usize {
         let k = i * 5 + from % 5;
         if k < most {
-            let next = judged(sum, list, bytes, variant(list, plan, k));
+            let next = judged(sum, list, bytes, plan, variant(list, plan, k));
             sum = next;
         }
     }
     sum
 }
 
-// A list whose plan of Make is true with the groups of the count, or not.
+// A list whose plan of Make is fit, or not.
 fn counted(t: Tally, fit: bool) -> Tally {
     Tally {
         lists: more(t.lists, true),
@@ -146,7 +162,21 @@ fn counted(t: Tally, fit: bool) -> Tally {
     }
 }
 
-fn is_fit(list: ListArray, plan: PlanArray) -> bool {
+// Are the isolated depots, where there are any, the last group?
+fn is_last(list: ListArray, plan: PlanArray) -> bool {
+    let set = isolated(list);
+    let last = std::num::wrapping_sub_usize(plan.count, 1);
+    set == 0 || group_at(plan, last) == set
+}
+
+// Is Make's plan true with the groups of the count? Of a list that the count cannot take: does the check pass it?
+fn is_fit(list: ListArray, bytes: &[u8], plan: PlanArray) -> bool {
+    if !is_last(list, plan) {
+        return false;
+    }
+    if !is_small(list) {
+        return checked(list, bytes, plan) == 1;
+    }
     if is_true(list, plan) {
         return has_groups(list, plan);
     }
@@ -156,7 +186,8 @@ fn is_fit(list: ListArray, plan: PlanArray) -> bool {
 // One list, as bytes: Make's plan, and near misses of it.
 fn swept_bytes(t: Tally, list: ListArray, bytes: &[u8], from: usize) -> Tally {
     let plan = made(list, bytes);
-    let first = judged(counted(t, is_fit(list, plan)), list, bytes, plan);
+    let fit = is_fit(list, bytes, plan);
+    let first = judged(counted(t, fit), list, bytes, plan, plan);
     near_misses(first, list, bytes, plan, from)
 }
 
@@ -169,14 +200,18 @@ fn swept(t: Tally, list: ListArray, from: usize) -> Tally {
     swept_bytes(t, list, &bytes[..n], from)
 }
 
-fn swept_small() -> Tally {
-    let mut sum = Tally {
+fn nothing() -> Tally {
+    Tally {
         lists: 0,
         unfit: 0,
         plans: 0,
         truths: 0,
         differ: 0,
-    };
+    }
+}
+
+fn swept_small() -> Tally {
+    let mut sum = nothing();
     for n in 0..46376usize {
         let next = swept(sum, small(n), n);
         sum = next;
@@ -193,21 +228,32 @@ fn swept_random(t: Tally) -> Tally {
     sum
 }
 
-// The same lists with rolls.
+// Such lists with rolls: isolated depots below 8, and below 12 in one of each 16.
 fn swept_rolled(t: Tally) -> Tally {
     let mut sum = t;
     for k in 0..600usize {
-        let next = swept(sum, rolled(random(11, k as u64), 13, k as u64), k);
+        let most = if k % 16 == 0 { 12 } else { 8 };
+        let next = swept(sum, rolled(random(11, k as u64), most, 13, k as u64), k);
         sum = next;
     }
     sum
 }
 
-// Small lists with rolls, one of each nine.
+// Small lists with rolls, one of each nine: isolated depots below 6.
 fn swept_small_rolled(t: Tally) -> Tally {
     let mut sum = t;
     for n in 0..5152usize {
-        let next = swept(sum, rolled(small(n * 9), 17, n as u64), n);
+        let next = swept(sum, rolled(small(n * 9), 6, 17, n as u64), n);
+        sum = next;
+    }
+    sum
+}
+
+// Lists with isolated depots among all 64, or all that no site names.
+fn swept_wide() -> Tally {
+    let mut sum = nothing();
+    for k in 0..600usize {
+        let next = swept(sum, rolled(random(19, k as u64), 64, 23, k as u64), k);
         sum = next;
     }
     sum
@@ -234,4 +280,7 @@ fn main() {
     let t = swept_small_rolled(swept_rolled(swept_random(swept_small())));
     print_lists(t);
     print_plans(t);
+    let wide = swept_wide();
+    print_lists(wide);
+    print_plans(wide);
 }

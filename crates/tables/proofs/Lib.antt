@@ -1,6 +1,7 @@
 pub mod Sites
 pub mod Arrays
 pub mod Groups
+pub mod Gathered
 pub mod Locals
 pub mod Marks
 pub mod Shares

@@ -1,6 +1,6 @@
 -- The network of a list as a value, and its listed depots gathered from the sites. Assumes nothing.
 use mathlib.Core.Path.{_≡_, sym, ap, ap₂, _∙_, subst}
-use mathlib.Core.Bool.{Bool, _||_, or-assoc}
+use mathlib.Core.Bool.{Bool, _||_, or-assoc, or-comm, or-false}
 use mathlib.Core.List.{List}
 use Prim.Native.Nat.{ℕ, _+_, _≤_, _<_}
 use native.Mathlib.Numerals.{add-one}
@@ -12,12 +12,12 @@ use Rattle.sets.specs.Sum.{any}
 use Rattle.sets.specs.Set.{Depots, only, _∪_, has, setOf}
 use Rattle.sets.proofs.Test.{and-l, and-r, eqb-swap}
 use Rattle.sets.proofs.Sum.{all-at, any-cong}
-use Rattle.sets.proofs.Member.{has-none, has-setOf, setOf-is, setOf-cong}
+use Rattle.sets.proofs.Member.{has-setOf, setOf-cong}
 use Rattle.density.specs.declared.Site.{Site}
-use Rattle.density.specs.Network.{noSite, siteAt, names, network, depotsInRange, inRange}
+use Rattle.density.specs.Network.{noSite, siteAt, names, enrolled, network, depotsInRange, inRange}
 use Rattle.density.proofs.Lists.{range-depots}
 use Rattle.records.specs.declared.ListArray.{ListArray}
-use Rattle.records.specs.Values.{listing}
+use Rattle.records.specs.Values.{rollIn, listing}
 use Rattle.tables.specs.Tables.{net}
 
 module _ (list : ListArray) (wide : length (list .sites) ≡ 512) (few : list .count ≤ 512) where
@@ -51,22 +51,28 @@ name-is set s =
 abbrev pub named : List Site → ℕ → Depots
 named sites i d = any (λ j. names (getD sites j noSite) d) i
 
-pub named-start : (sites : List Site) → 0 ≡ setOf (named sites 0) 64
+-- with those of another set, B
+pub named-start : (B : Depots) (sites : List Site) (set : ℕ) → set ≡ setOf B 64 → set ≡ setOf (B ∪ named sites 0) 64
 unfolding any
-named-start sites = setOf-is 64 (named sites 0) (omega arith) (λ d l. has-none d)
+named-start B sites set e = e ∙ setOf-cong _ _ 64 (λ d l. sym (or-false (B d)))
 
-pub named-more : (sites : List Site) (i set : ℕ) → set ≡ setOf (named sites i) 64 → setOf (has set ∪ names (getD sites i noSite)) 64 ≡ setOf (named sites (i + 1)) 64
+pub named-more : (B : Depots) (sites : List Site) (i set : ℕ) → set ≡ setOf (B ∪ named sites i) 64
+    → setOf (has set ∪ names (getD sites i noSite)) 64 ≡ setOf (B ∪ named sites (i + 1)) 64
 unfolding any
-named-more sites i set e =
+named-more B sites i set e =
     setOf-cong _ _ 64
     (λ d l.
-    ap (λ (b : Bool). b || names (getD sites i noSite) d) (ap (λ (n : ℕ). has n d) e ∙ has-setOf 64 (named sites i) d l)
-    ∙ sym (ap (λ (n : ℕ). named sites n d) (add-one i)))
+    ap (λ (b : Bool). b || names (getD sites i noSite) d) (ap (λ (n : ℕ). has n d) e ∙ has-setOf 64 (B ∪ named sites i) d l)
+    ∙ or-assoc (B d) (named sites i d) (names (getD sites i noSite) d)
+    ∙ sym (ap (λ (n : ℕ). B d || named sites n d) (add-one i)))
 
-pub named-end : (list : ListArray) → length (list .sites) ≡ 512 → list .count ≤ 512 → (i : ℕ) → i ≡ list .count → setOf (named (list .sites) i) 64 ≡ setOf (net list .listed) 64
+pub named-end : (list : ListArray) → length (list .sites) ≡ 512 → list .count ≤ 512 → (i : ℕ) → i ≡ list .count
+    → setOf (enrolled (rollIn (list .roll)) ∪ named (list .sites) i) 64 ≡ setOf (net list .listed) 64
 unfolding network
 named-end list wide few i e =
     setOf-cong _ _ 64
     (λ d l.
-    any-cong _ _ i (λ j m. ap (λ (s : Site). names s d) (sym (getD-take (list .count) (list .sites) j noSite (omega arith))))
+    ap (λ (b : Bool). enrolled (rollIn (list .roll)) d || b)
+    (any-cong _ _ i (λ j m. ap (λ (s : Site). names s d) (sym (getD-take (list .count) (list .sites) j noSite (omega arith))))
     ∙ ap (any (λ j. names (siteAt (listing list) j) d)) (e ∙ sym (length-take-le (list .count) (list .sites) (omega arith))))
+    ∙ or-comm (enrolled (rollIn (list .roll)) d) _)

@@ -9,7 +9,7 @@ ghost use Prim.Native.Nat.{_<_, _≤_, _^_, max};
 ghost use lib.Dec.{T};
 ghost use lib.ListN.{length, getD};
 ghost use Rattle.sets.specs.Set.{_∪_, has, setOf};
-ghost use Rattle.density.specs.Network.{Listing, names, crewsOf, network, crewsAbove, inRange};
+ghost use Rattle.density.specs.Network.{Listing, names, crewsOf, enrolled, network, crewsAbove, inRange};
 ghost use Rattle.density.specs.Plan.{place, groupSize};
 ghost use Rattle.records.specs.Values.{rollIn, listing};
 ghost use Rattle.tables.specs.Tables.{net, Holds, Placed, Litres};
@@ -44,12 +44,31 @@ pub fn name(set: u64, s: Site) -> u64
     sets::with(sets::with(set, s.first), s.second)
 }
 
+// The depots with crews in the roll.
+pub fn enrolled(roll: RollArray) -> u64
+    ensures { λ r. ⌜ r ≡ setOf (enrolled (rollIn roll)) 64 ⌝ }
+{
+    let mut set: u64 = 0;
+    if !roll.there {
+        return set;
+    }
+    let mut d: u8 = 0;
+    while d < 64 {
+        if 0 < roll.crews[d as usize] {
+            set = sets::with(set, d);
+        }
+        d += 1;
+    }
+    set
+}
+
 // The listed depots.
 pub fn listed(list: ListArray) -> u64
     requires { ⌜ (list .count ≤ 512) × T (inRange (listing list)) ⌝ }
     ensures { λ r. ⌜ r ≡ setOf (net list .listed) 64 ⌝ }
 {
-    let mut set: u64 = 0;
+    let roll = list.roll;
+    let mut set = enrolled(roll);
     let mut i: usize = 0;
     while i < list.count {
         let s = list.sites[i];

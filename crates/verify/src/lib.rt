@@ -11,7 +11,7 @@ ghost use Rattle.density.specs.Rows.{firstRow, planRows};
 ghost use Rattle.tables.specs.Verdict.{verdict};
 ghost use Rattle.tables.specs.Tables.{net, groupsIn, sharesIn, Counted, Ready, Tables, lentPlan, Tallied, Formed};
 
-// One pass over the sites: the listed depots and W of each group; w × q of each site goes to `wholes`.
+// One pass over the sites: the listed depots, those with crews in the roll first, and W of each group; w × q of each site goes to `wholes`.
 // At a share that breaks a rule, and at a site without a group (the groups are then not the listed depots, and row 13 refuses the plan), it stops adding up; from there on it only names depots.
 fn add_up(
     list: ListArray,
@@ -25,7 +25,8 @@ fn add_up(
     requires { ⌜ Counted list (lentPlan count (now sets) (now shares)) × Tables list (lentPlan count (now sets) (now shares)) (now places) (now sizes) × (length (now shares) ≡ 512) × (length (now wholes) ≡ 512) ⌝ }
     ensures { λ r. ⌜ (r .listed ≡ setOf (net list .listed) 64) × (Ready list (lentPlan count (now (sets .entry)) (now (shares .entry))) → Tallied list (lentPlan count (now (sets .entry)) (now (shares .entry))) (now (places .entry)) r (now (wholes .exit))) ⌝ }
 {
-    let mut set: u64 = 0;
+    let roll = list.roll;
+    let mut set = tables::enrolled(roll);
     let mut litres = [0u64; 64];
     let mut end = list.count;
     let mut i: usize = 0;

@@ -5,10 +5,10 @@ use Rattle.exhaustive.proofs.all_groups.Statement.{statement}
 use Rattle.exhaustive.proofs.all_groups.Tie as tie
 
 abbrev Inv-loop : tie.InvT-loop
-Inv-loop sites crews sets₀ count₀ free₀ grouped₀ k₀ sets count free grouped k = k ≤ 16
+Inv-loop sites crews crewed sets₀ count₀ free₀ grouped₀ k₀ sets count free grouped k = k ≤ 16
 
 abbrev μ-loop : tie.MeasureT-loop
-μ-loop sites crews sets₀ count₀ free₀ grouped₀ k₀ sets count free grouped k = 16 - k
+μ-loop sites crews crewed sets₀ count₀ free₀ grouped₀ k₀ sets count free grouped k = 16 - k
 
 listed-requires : tie.Need-listed-requires Inv-loop μ-loop
 listed-requires c κs = tt

@@ -5,10 +5,10 @@ use Rattle.exhaustive.proofs.listed.Statement.{statement}
 use Rattle.exhaustive.proofs.listed.Tie as tie
 
 abbrev Inv-loop : tie.InvT-loop
-Inv-loop sites set₀ i₀ set i = i ≤ 16
+Inv-loop sites crewed set₀ i₀ set i = i ≤ 16
 
 abbrev μ-loop : tie.MeasureT-loop
-μ-loop sites set₀ i₀ set i = 16 - i
+μ-loop sites crewed set₀ i₀ set i = 16 - i
 
 loop-holds : tie.Need-loop-holds Inv-loop μ-loop
 loop-holds c = omega arith

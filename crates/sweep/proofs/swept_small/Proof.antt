@@ -10,6 +10,9 @@ Inv-loop sum₀ n₀ sum n = n ≤ 46376
 abbrev μ-loop : tie.MeasureT-loop
 μ-loop sum₀ n₀ sum n = 46376 - n
 
+nothing-requires : tie.Need-nothing-requires Inv-loop μ-loop
+nothing-requires c κs = tt
+
 loop-holds : tie.Need-loop-holds Inv-loop μ-loop
 loop-holds c = omega arith
 
@@ -37,6 +40,7 @@ swept-small-spec =
     (tie.spec
     Inv-loop
     μ-loop
+    nothing-requires
     loop-holds
     small-requires
     swept-requires

@@ -1,12 +1,14 @@
--- `verify::add_up` meets its contract. The invariants: the set has the depots that the sites passed name; in the first loop `Pass` holds of them, and where it ends before the list does, a share breaks a rule if the groups are the listed depots. Assumes nothing.
+-- `verify::add_up` meets its contract. The invariants: the set has the depots with crews in the roll and those that the sites passed name; in the first loop `Pass` holds of them, and where it ends before the list does, a share breaks a rule if the groups are the listed depots. Assumes nothing.
 use mathlib.Core.Path.{_≡_, refl, _∙_}
 use mathlib.Core.Bool.{true}
 use mathlib.Core.List.{[], _∷_}
 use Prim.Native.Nat.{_-_, _≤_, _<_}
 use native.Mathlib.Omega.{arith}
 use lib.ListN.{length, length-map}
-use Rattle.sets.specs.Set.{setOf}
+use Rattle.sets.specs.Set.{_∪_, setOf}
+use Rattle.density.specs.Network.{enrolled}
 use Rattle.density.specs.Rows.{sharesBroken}
+use Rattle.records.specs.Values.{rollIn}
 use Rattle.tables.specs.Tables.{net, groupsIn, sharesIn, Ready, lentPlan}
 use Rattle.tables.proofs.Locals.{value, memory, arrays}
 use Rattle.tables.proofs.Sites.{site-small, named, named-start, named-more, named-end}
@@ -16,28 +18,28 @@ use Rattle.verify.proofs.add_up.Statement.{statement}
 use Rattle.verify.proofs.add_up.Tie as tie
 use Rattle.verify.proofs.add_up.Code as code
 
--- The arrays of its code, by `refl`: another one is refused. W returned; the list's sites and roll; in memory the sites and the roll, and W of each group; W as it is put into what is returned.
-arrays-are : arrays (code.function) ≡ value 64 8 ∷ value 512 8 ∷ value 64 1 ∷ memory 512 8 ∷ memory 64 1 ∷ memory 64 8 ∷ value 64 8 ∷ []
+-- The arrays of its code, by `refl`: another one is refused. W returned; the list's sites and roll; in memory the sites and the roll; the roll as it is passed on; in memory W of each group; W as it is put into what is returned.
+arrays-are : arrays (code.function) ≡ value 64 8 ∷ value 512 8 ∷ value 64 1 ∷ memory 512 8 ∷ memory 64 1 ∷ value 64 1 ∷ memory 64 8 ∷ value 64 8 ∷ []
 arrays-are = refl
 
 abbrev Inv-loop : tie.InvT-loop
 Inv-loop count sets shares places sizes wholes₀ list set₀ litres₀ end₀ i₀ wholes set litres end i =
     let plan = lentPlan count sets shares in
-    (i ≤ end) × (end ≤ list .count) × (set ≡ setOf (named (list .sites) i) 64) × Pass list plan places litres wholes i
+    (i ≤ end) × (end ≤ list .count) × (set ≡ setOf (enrolled (rollIn (list .roll)) ∪ named (list .sites) i) 64) × Pass list plan places litres wholes i
     × (end < list .count → Ready list plan → true ≡ sharesBroken (net list) (groupsIn list plan) (sharesIn list plan))
 
 abbrev μ-loop : tie.MeasureT-loop
 μ-loop count sets shares places sizes wholes₀ list set₀ litres₀ end₀ i₀ wholes set litres end i = end - i
 
 abbrev Inv-loop2 : tie.InvT-loop2
-Inv-loop2 count sets shares places sizes wholes list set₀ litres end i₀ broken set i = (i ≤ list .count) × (set ≡ setOf (named (list .sites) i) 64)
+Inv-loop2 count sets shares places sizes wholes list set₀ litres end i₀ broken set i = (i ≤ list .count) × (set ≡ setOf (enrolled (rollIn (list .roll)) ∪ named (list .sites) i) 64)
 
 abbrev μ-loop2 : tie.MeasureT-loop2
 μ-loop2 count sets shares places sizes wholes list set₀ litres end i₀ broken set i = list .count - i
 
 -- before the first loop, and where its test passed: the beginning
-abbrev entered : tie.After-slice-known Inv-loop μ-loop Inv-loop2 μ-loop2 → tie.Start Inv-loop μ-loop Inv-loop2 μ-loop2
-entered c = c .before .before .before .before .before
+abbrev entered : tie.After-enrolled Inv-loop μ-loop Inv-loop2 μ-loop2 → tie.Start Inv-loop μ-loop Inv-loop2 μ-loop2
+entered c = c .before .before .before .before .before .before .before
 
 abbrev start : tie.In-loop Inv-loop μ-loop Inv-loop2 μ-loop2 → tie.Start Inv-loop μ-loop Inv-loop2 μ-loop2
 start t = entered (t .before .before)
@@ -74,10 +76,13 @@ here t = omega (arith, t .loop-test .taken, t .before .loop .inv .1)
 wide : (s : tie.Start Inv-loop μ-loop Inv-loop2 μ-loop2) → length (s .args .t1 .sites) ≡ 512
 wide s = simp length-map at (s .good .0 .1 .1 .1 .0 .1 .0 .1)
 
+enrolled-requires : tie.Need-enrolled-requires Inv-loop μ-loop Inv-loop2 μ-loop2
+enrolled-requires c κs = search needs
+
 loop-holds : tie.Need-loop-holds Inv-loop μ-loop Inv-loop2 μ-loop2
 loop-holds c =
     let s = entered c in
-    (search needs, search needs, named-start (s .args .t1 .sites), pass-start _ _ _ _ (s .pre .3), λ l. absurd (omega arith))
+    (search needs, search needs, named-start (enrolled (rollIn (s .args .t1 .roll))) (s .args .t1 .sites) _ (c .enrolled .ensures), pass-start _ _ _ _ (s .pre .3), λ l. absurd (omega arith))
 
 mul-s : tie.Need-mul-s Inv-loop μ-loop Inv-loop2 μ-loop2
 mul-s c =
@@ -271,7 +276,7 @@ loop-again-3 c =
     let list = s .args .t1 in (
       search needs,
       l .inv .1,
-      c .name .ensures ∙ named-more (list .sites) (l .i) _ (l .inv .2),
+      c .name .ensures ∙ named-more (enrolled (rollIn (list .roll))) (list .sites) (l .i) _ (l .inv .2),
       pass-more list (lentPlan (s .args .count) (s .args .sets .now) (s .args .shares .now)) (s .args .places .now) (s .args .sizes .now) (s .pre .1) (l .i) (here t) (k .result) (k .ensures) (w .result) (w .ensures) _ (o .is-broken .ensures)
           _ _ _ _ (l .inv .3) (c .before .if2 .left) (omega (arith, g, s .pre .0 .groups)) (s .pre .0 .sites) refl refl,
       l .inv .4,
@@ -305,7 +310,7 @@ loop2-again : tie.Need-loop2-again Inv-loop μ-loop Inv-loop2 μ-loop2
 loop2-again c =
     let t = c .before .before in
     let l = t .before .loop2 in
-    (search needs, c .name2 .ensures ∙ named-more (begun t .args .t1 .sites) (l .i) _ (l .inv .1))
+    (search needs, c .name2 .ensures ∙ named-more (enrolled (rollIn (begun t .args .t1 .roll))) (begun t .args .t1 .sites) (l .i) _ (l .inv .1))
 
 same-length : tie.Need-same-length Inv-loop μ-loop Inv-loop2 μ-loop2
 same-length c = search needs
@@ -330,6 +335,7 @@ add-up-spec =
     μ-loop
     Inv-loop2
     μ-loop2
+    enrolled-requires
     loop-holds
     mul-s
     element-copy-out-s
