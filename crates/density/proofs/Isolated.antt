@@ -2,7 +2,7 @@
 -- every site has litres, the idle depots are those without sites. Assumes nothing.
 use mathlib.Core.Path.{_≡_, refl, sym, ap, _∙_, subst, fun-ext}
 use mathlib.Core.Logic.{_↔_, ⊎-elim}
-use mathlib.Core.Bool.{Bool, not, _&&_, _||_}
+use mathlib.Core.Bool.{Bool, true, false, not, _&&_, _||_}
 use mathlib.Core.List.{List}
 use Prim.Native.Nat.{ℕ, suc, _*_, _≤_, _<_}
 use native.Mathlib.Nat.{le-trans, le-of-suc-le, lt-irrefl, eq-zero-or-pos, eq-or-lt-of-le, mul-le-mul-right, le-of-mul-le-mul-right, mul-comm}
@@ -11,7 +11,7 @@ use lib.Dec.{T, T-not, not-T, eqb, ltb, eqb→eq, lt→ltb, ltb→lt}
 use lib.ListN.{length}
 use Rattle.sets.specs.Sum.{when, sum, any}
 use Rattle.sets.specs.Set.{Depots, only, ∅, _∪_, _∖_, _⊆_, Apart, Nonempty}
-use Rattle.density.specs.Network.{Network, Valid, names, touches, within, counts, litres, size}
+use Rattle.density.specs.Network.{Listing, Network, Valid, named, enrolled, network, names, touches, within, counts, litres, size}
 use Rattle.density.specs.declared.Site.{Site}
 use Rattle.density.specs.Groups.{Candidate, Next, Decomposition}
 use Rattle.density.specs.Plan.{group, before, place, carrier, groupLitres, groupSize, Falling}
@@ -36,6 +36,17 @@ idle-dry N d i t l m =
   where
     test : ℕ → Bool
     test i = names (N .site i) d && ltb 0 (N .site i .litres)
+
+-- of a list they are the depots that have crews in the roll and that no site names
+beside : (a b : Bool) → (a || b) && not a ≡ b && not a
+beside true true = refl
+beside true false = refl
+beside false true = refl
+beside false false = refl
+
+pub isolated-of : (l : Listing) (d : ℕ) → isolated (network l) d ≡ enrolled (l .roll) d && not (named l d)
+unfolding isolated network
+isolated-of l d = beside (named l d) (enrolled (l .roll) d)
 
 pub isolated-listed : (N : Network) → isolated N ⊆ N .listed
 unfolding isolated
