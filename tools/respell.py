@@ -14,7 +14,7 @@ import sys
 
 FILES = sorted(glob.glob("crates/*/specs/**/*.antt", recursive=True) + glob.glob("crates/*/proofs/**/*.antt", recursive=True) + glob.glob("crates/*/src/**/*.rt", recursive=True))
 EDITS = sorted(glob.glob("crates/*/must-fail/*.edit"))
-TOKEN = re.compile(r"[A-Za-z_][\w'\u2080-\u2089\u2192]*")
+TOKEN = re.compile(r"(?<!\d)[A-Za-z_][\w'\u2080-\u2089\u2192]*")
 CAMEL = re.compile(r"[a-z][a-z0-9_]*[a-z0-9][A-Z][\w'\u2080-\u2089\u2192]*$")
 STRING = re.compile(r'("(?:\\.|[^"\\\n])*")')
 HUMP = re.compile(r"(?<=[a-z0-9])([A-Z])")

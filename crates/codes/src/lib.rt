@@ -1,4 +1,5 @@
 // A store call over lent bytes of either edition, and its answer as the numbers that a C function gives back.
+#![tactic(auto)]
 ghost use Rattle.std.specs.Prelude.{◌≡◌, [], ℕ, ◌<◌, ◌^◌};
 ghost use Rattle.store.specs.Calls.{told, wrote};
 ghost use Rattle.store.specs.declared.Request.TheVariants as request;
@@ -13,7 +14,7 @@ use signed::{length, refused};
 use store::{Answer, Request};
 
 // A store's answer as numbers: its code, two figures and a difference.
-#[derive(Drop)]
+#[derive(Clone, Copy)]
 pub struct Coded {
     pub code: i64,
     pub first: u64,

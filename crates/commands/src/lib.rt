@@ -1,4 +1,5 @@
 // A line of a script turned into a command. The top of crates/console/src/main.rt says what the lines mean.
+#![tactic(auto)]
 ghost use Rattle.std.specs.Prelude.{◌≡◌, ◌∷◌};
 ghost use Rattle.script.specs.Decimal.{number_of};
 ghost use Rattle.script.specs.Words.{words_of};
@@ -11,7 +12,7 @@ use store::Request;
 
 // What a line asks for. A `Call` is a call of the desk; `written` and `list`, which take a buffer, have variants of their own.
 // `Convert` is of a list, `ConvertPlan` of a list and its plan: `upgrade`, and `downgrade` where the flag is true. Bytes are not held: they are words of the line.
-#[derive(Drop)]
+#[derive(Clone, Copy)]
 pub enum Command {
     Blank,
     Bad,
@@ -28,7 +29,7 @@ pub enum Command {
 }
 
 // The direction between editions that a name stands for: back where the flag is true. Other names have none.
-#[derive(Drop)]
+#[derive(Clone, Copy)]
 enum Direction {
     Back(bool),
     None,

@@ -35,6 +35,7 @@
 // A blank line prints nothing, nor does one whose first word begins with `#`. Any other line, and one with a word too many or too few, or with a number too large for its place, prints `bad line`.
 // A line is at most 65,536 bytes long. Of a longer one nothing is carried out, whatever it begins with: it is read to its end and prints one `bad line` there.
 // The last line may lack its newline. An answer is printed as soon as its line is read.
+#![tactic(auto)]
 ghost use Rattle.std.specs.Prelude.{◌≡◌, true, ◌⊎◌, ℕ, ◌+◌, ◌*◌, ◌≤◌, ◌^◌, nat_abs};
 ghost use Rattle.io.specs.Counts.{IsPrefixLen};
 ghost use Rattle.commands.specs.Commands.{Within};
@@ -53,7 +54,7 @@ use tables::Verdict;
 
 // The bytes of a store and of its table, of edition 2 if `second` is true and else of edition 1, and how many places the table has: at most 600.
 // In edition 2 a store has 4,704 bytes and a place 6; in edition 1 a store has the first 2,584 bytes, and a place 4.
-#[derive(Drop)]
+#[derive(Clone, Copy)]
 struct Desk {
     second: bool,
     places: usize,
@@ -62,7 +63,7 @@ struct Desk {
 }
 
 // What is kept between reads: whether there may be more to read, how many bytes of the next line are read, and the desk.
-#[derive(Drop)]
+#[derive(Clone, Copy)]
 struct State {
     more: bool,
     used: usize,

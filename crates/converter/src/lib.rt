@@ -1,4 +1,5 @@
 // Lists and plans between editions: up from edition 1 to edition 2, and back where every figure fits.
+#![tactic(auto)]
 ghost use Rattle.std.specs.Prelude.{◌≡◌, ◌≤◌};
 ghost use Rattle.records.specs.Values.{listing};
 ghost use Rattle.records.specs.Answer.{list_read};
@@ -11,7 +12,7 @@ use readers::list::no_list;
 use records::{Edition, ListArray, ListRead, Read, Wrote, WroteBoth, edition1, edition2, scan};
 
 // A way: the edition of what is given, the edition of what is written, and whether it goes back.
-#[derive(Drop)]
+#[derive(Clone, Copy)]
 pub struct Way {
     pub from: Edition,
     pub to: Edition,

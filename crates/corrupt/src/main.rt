@@ -1,6 +1,7 @@
 // Desks and tables that no history leaves behind, put to the desk's entry of each edition. Where row 0 applies, every call but load is refused by it, and the desk, the table and the
 // buffer come back as they were; load works. Where only rows 15 or 16 would refuse the held plan, or the content lies beyond what is held, the desk answers from what it holds.
 // Then tables of 0, 3, 512 and 600 places: a call stores what it is to store, and every other place keeps its content. Last, what only edition 2 can hold: large figures, rolls and isolated depots.
+#![tactic(auto)]
 use density::Site;
 use edition1::{Request1, narrow_store, widen_store};
 use entries1::call_on1;
@@ -13,7 +14,7 @@ use table::{Site1, widen};
 use tally::{Tally, tallied};
 
 // A desk and a table of an edition, 1 or 2, in figures. For edition 1 they are narrowed and what a call leaves is widened: a figure that does not fit would not come back.
-#[derive(Drop)]
+#[derive(Clone, Copy)]
 struct Desk {
     edition: u8,
     store: Store,
@@ -200,7 +201,7 @@ fn same_store(a: Store, b: Store) -> bool {
 }
 
 // An answer's name and numbers; 0 for those that it has not.
-#[derive(Drop)]
+#[derive(Clone, Copy)]
 struct Plain {
     name: u8,
     first: u64,
@@ -250,7 +251,7 @@ fn same_answer(a: Answer, b: Answer) -> bool {
 }
 
 // What a call leaves, in figures, and the buffer that it was lent.
-#[derive(Drop)]
+#[derive(Clone, Copy)]
 struct Left {
     answer: Answer,
     store: Store,
@@ -802,7 +803,7 @@ fn beside_no_roll(start: Tally) -> Tally {
 // A list with the site (0,1) of 12 litres and with three crews, one and two at depots 0, 1 and 2: depot 2 is isolated.
 fn opened_list() -> [u8; 78] {
     let mut bytes = [0u8; 78];
-    bytes[0] = 0x4_c;
+    bytes[0] = 0x4C;
     bytes[1] = 0x32;
     bytes[2] = 1;
     bytes[4] = 0x53;
@@ -820,7 +821,7 @@ fn opened_list() -> [u8; 78] {
 // A list without sites and with nine crews at each depot.
 fn empty_list() -> [u8; 70] {
     let mut bytes = [9u8; 70];
-    bytes[0] = 0x4_c;
+    bytes[0] = 0x4C;
     bytes[1] = 0x32;
     bytes[2] = 0;
     bytes[3] = 0;

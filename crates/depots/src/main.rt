@@ -1,4 +1,5 @@
 // The first program: reads a list of edition 1 on standard input, at most 3,077 bytes, makes a plan, and prints the listed depots with their groups, W and q.
+#![tactic(auto)]
 ghost use Rattle.figures.specs.Computed.{Computed};
 
 use figures::Figures;

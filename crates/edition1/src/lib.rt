@@ -1,4 +1,5 @@
 // The desk by the widths of edition 1 of document 01.
+#![tactic(auto)]
 ghost use Rattle.std.specs.Prelude.{◌≡◌, ℕ, ◌<◌, ◌^◌, get_or};
 ghost use Rattle.std.proofs.Math.Option.{none};
 ghost use Rattle.records.specs.Values.{roll_array};
@@ -13,7 +14,7 @@ use table::values::narrow_first;
 use table::{Site1, widen_all};
 
 // Edition 1: the store by its widths, a share in 32 bits.
-#[derive(Drop)]
+#[derive(Clone, Copy)]
 pub struct Store1 {
     pub count: usize,
     pub held: bool,
@@ -23,7 +24,7 @@ pub struct Store1 {
 }
 
 // "Litres in a change or an added site are a 16-bit figure"; a threshold has 32 bits
-#[derive(Drop)]
+#[derive(Clone, Copy)]
 pub enum Request1 {
     Load,
     Change(usize, u16),
@@ -37,7 +38,7 @@ pub enum Request1 {
     ListWritten,
 }
 
-#[derive(Drop)]
+#[derive(Clone, Copy)]
 pub struct Decision1 {
     pub answer: Answer,
     pub store: Store1,
@@ -46,7 +47,7 @@ pub struct Decision1 {
 }
 
 // What a call of edition 1 gives back.
-#[derive(Drop)]
+#[derive(Clone, Copy)]
 pub struct Out1 {
     pub answer: Answer,
     pub store: Store1,

@@ -1,4 +1,5 @@
 // The entries of edition 1 of document 01: a desk call over a lent table, and over a table by value.
+#![tactic(auto)]
 ghost use Rattle.std.specs.Prelude.{◌≡◌, take, drop};
 ghost use Rattle.store.specs.State.{step};
 ghost use Rattle.edition1.specs.Edition1.{view1, request_of1, call_of1, Typed1, turned1};
@@ -10,7 +11,7 @@ use store::Answer;
 use table::{Site1, places_on};
 
 // What a call gives back to a program that owns its table.
-#[derive(Drop)]
+#[derive(Clone, Copy)]
 pub struct OutOn1 {
     pub answer: Answer,
     pub store: Store1,

@@ -1,10 +1,11 @@
 // Groups and plans by a plain count over all sets of depots, from document 01, "Depots, sites, groups", and document 02, g and h. It shares nothing with the engine but the
 // types of a list and of a plan. For lists of at most 16 sites whose listed depots are below 12; `is_small` says whether a list is one.
+#![tactic(auto)]
 use density::Site;
 use records::{ListArray, PlanArray};
 
 // A site: the sets of its first and of its second depot, and its litres; all three are 0 beyond the last site.
-#[derive(Drop)]
+#[derive(Clone, Copy)]
 struct Entry {
     first: u64,
     second: u64,
@@ -12,7 +13,7 @@ struct Entry {
 }
 
 // A site in a plan: the place of the group that carries it, what the site is in its q-ths of a litre, and the first depot's share of that.
-#[derive(Drop)]
+#[derive(Clone, Copy)]
 struct Part {
     site: Entry,
     carrier: usize,
@@ -21,7 +22,7 @@ struct Part {
 }
 
 // Groups in order, 0 beyond the last.
-#[derive(Drop)]
+#[derive(Clone, Copy)]
 struct Found {
     count: usize,
     sets: [u64; 64],

@@ -1,4 +1,5 @@
 // Document 01's lists with known plans, and lists with crews and isolated depots, counted over all sets.
+#![tactic(auto)]
 use exhaustive::{has_groups, is_small, is_true};
 use networks::{
     no_groups, no_sites, with_crews, with_crews_below, with_group, with_share, with_site,

@@ -1,4 +1,5 @@
 // The figures of a list: the plan made for it, the place of each depot, and q and W of each group.
+#![tactic(auto)]
 ghost use Rattle.std.specs.Prelude.{◌≡◌, ◌≤◌, T};
 ghost use Rattle.density.specs.Network.{in_range};
 ghost use Rattle.records.specs.Values.{listing};
@@ -7,7 +8,7 @@ ghost use Rattle.figures.specs.Computed.{Computed, Of};
 use records::{Edition, ListArray, PlanArray, Read};
 
 // A list, the plan made for it, the place of each depot, and q and W of each group.
-#[derive(Drop)]
+#[derive(Clone, Copy)]
 pub struct Figures {
     pub list: ListArray,
     pub plan: PlanArray,
@@ -17,7 +18,7 @@ pub struct Figures {
 }
 
 // What the bytes of a list give: how many sites it has or the row that refuses it, and the figures of the list, which is empty where it is refused.
-#[derive(Drop)]
+#[derive(Clone, Copy)]
 pub struct Found {
     pub answer: Read,
     pub figures: Figures,

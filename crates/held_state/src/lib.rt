@@ -1,4 +1,5 @@
 // What a store holds: its state, row 0, and the figures of a held plan.
+#![tactic(auto)]
 ghost use Rattle.std.specs.Prelude.{◌≡◌, List, ℕ, ◌*◌, ◌^◌, ◌<◌, ◌≤◌, T, ltb, pos, ◌-ℤ◌, length, get_or};
 ghost use Rattle.sets.specs.Set.{has, set_of};
 ghost use Rattle.sets.specs.Sum.{any};
@@ -16,7 +17,7 @@ use records::{ListArray, RollArray, roll, scan};
 use tables::{Form, Verdict};
 
 // What is held beside the table: how many of its places are sites, a plan or none, and the list's roll or none.
-#[derive(Drop)]
+#[derive(Clone, Copy)]
 pub struct Store {
     pub count: usize,
     pub held: bool,
@@ -27,7 +28,7 @@ pub struct Store {
 }
 
 // What a call goes by beside the held sites and the arrays of the plan: the places of the table, whether a plan is held and of how many groups, and whether rows 5 or 6 refuse a held site.
-#[derive(Drop)]
+#[derive(Clone, Copy)]
 pub struct Summary {
     pub places: usize,
     pub held: bool,
@@ -36,14 +37,14 @@ pub struct Summary {
 }
 
 // W and q of a depot's group.
-#[derive(Drop)]
+#[derive(Clone, Copy)]
 pub struct GroupFigures {
     pub litres: u64,
     pub size: u64,
 }
 
 // A difference, with its divisor.
-#[derive(Drop)]
+#[derive(Clone, Copy)]
 pub struct Difference {
     pub value: i64,
     pub divisor: u64,

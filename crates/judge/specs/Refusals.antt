@@ -13,14 +13,14 @@ given list plan = record { list = list; plan = plan }
 
 -- "4C 53, site count (2 bytes)"; "53 54, first depot (1), second depot (1), litres (2)"
 abbrev pub head : ℕ → List ℕ → List ℕ
-head n rest = 0x4_c ∷ 0x53 ∷ n ∷ 0x00 ∷ rest
+head n rest = 0x4C ∷ 0x53 ∷ n ∷ 0x00 ∷ rest
 
 abbrev pub site : ℕ → ℕ → ℕ → List ℕ → List ℕ
 site f s w rest = 0x53 ∷ 0x54 ∷ f ∷ s ∷ w ∷ 0x00 ∷ rest
 
 -- "50 4C, group count (1), site count (2)"; "47 52 and a set (8)"; "53 48 and s (4)"
 abbrev pub plan : ℕ → ℕ → List ℕ → List ℕ
-plan groups sites rest = 0x50 ∷ 0x4_c ∷ groups ∷ sites ∷ 0x00 ∷ rest
+plan groups sites rest = 0x50 ∷ 0x4C ∷ groups ∷ sites ∷ 0x00 ∷ rest
 
 abbrev pub group : ℕ → List ℕ → List ℕ
 group g rest = 0x47 ∷ 0x52 ∷ g ∷ 0x00 ∷ 0x00 ∷ 0x00 ∷ 0x00 ∷ 0x00 ∷ 0x00 ∷ 0x00 ∷ rest
@@ -34,17 +34,17 @@ refusals =
     -- no bytes
     given [] []
     -- 4C 53 01 02
-    ∷ given (0x4_c ∷ 0x53 ∷ 0x01 ∷ 0x02 ∷ []) []
+    ∷ given (0x4C ∷ 0x53 ∷ 0x01 ∷ 0x02 ∷ []) []
     -- T's list less its last byte
-    ∷ given (head 1 (0x53 ∷ 0x54 ∷ 0x00 ∷ 0x01 ∷ 0x0_a ∷ [])) []
+    ∷ given (head 1 (0x53 ∷ 0x54 ∷ 0x00 ∷ 0x01 ∷ 0x0A ∷ [])) []
     -- T's list with 53 55
-    ∷ given (head 1 (0x53 ∷ 0x55 ∷ 0x00 ∷ 0x01 ∷ 0x0_a ∷ 0x00 ∷ [])) []
+    ∷ given (head 1 (0x53 ∷ 0x55 ∷ 0x00 ∷ 0x01 ∷ 0x0A ∷ 0x00 ∷ [])) []
     -- site 53 54 00 40 0A 00
-    ∷ given (head 1 (site 0x00 0x40 0x0_a [])) []
+    ∷ given (head 1 (site 0x00 0x40 0x0A [])) []
     -- site 53 54 00 01 00 00
     ∷ given (head 1 (site 0x00 0x01 0x00 [])) []
     -- 50 4D 01 01 00
-    ∷ given list_t (0x50 ∷ 0x4_d ∷ 0x01 ∷ 0x01 ∷ 0x00 ∷ [])
+    ∷ given list_t (0x50 ∷ 0x4D ∷ 0x01 ∷ 0x01 ∷ 0x00 ∷ [])
     -- 50 4C 41 01 00
     ∷ given list_t (plan 0x41 1 [])
     -- T, 50 4C 01 02 00
@@ -52,7 +52,7 @@ refusals =
     -- T's plan and one byte
     ∷ given list_t (plan 1 1 (group 3 (share 10 (0x00 ∷ []))))
     -- T's plan with 53 47
-    ∷ given list_t (plan 1 1 (group 3 (0x53 ∷ 0x47 ∷ 0x0_a ∷ 0x00 ∷ 0x00 ∷ 0x00 ∷ [])))
+    ∷ given list_t (plan 1 1 (group 3 (0x53 ∷ 0x47 ∷ 0x0A ∷ 0x00 ∷ 0x00 ∷ 0x00 ∷ [])))
     -- T, groups {0}, {0,1}
     ∷ given list_t (plan 2 1 (group 1 (group 3 (share 10 []))))
     -- T, group {0}
@@ -75,7 +75,7 @@ gets n list plan = record { row = n; given = given list plan }
 
 -- Document 02, c: "List edition 2 begins 4C 32", "Plan edition 2 begins 50 32"; here one site, and groups of depots below 8
 abbrev pub head2 : List ℕ → List ℕ
-head2 rest = 0x4_c ∷ 0x32 ∷ 0x01 ∷ 0x00 ∷ rest
+head2 rest = 0x4C ∷ 0x32 ∷ 0x01 ∷ 0x00 ∷ rest
 
 abbrev pub groups2 : List ℕ → List ℕ → List ℕ
 groups2 [] rest = rest
@@ -95,7 +95,7 @@ share2 x = 0x53 ∷ 0x33 ∷ x ∷ 0x00 ∷ 0x00 ∷ 0x00 ∷ 0x00 ∷ 0x00 ∷ 
 unfoldable pub refusals2 : List Refusal
 refusals2 =
     -- a list of neither edition
-    gets 1 (0x4_c ∷ 0x33 ∷ 0x01 ∷ 0x00 ∷ 0x53 ∷ 0x32 ∷ 0x00 ∷ 0x01 ∷ 0x70 ∷ 0x11 ∷ 0x01 ∷ 0x00 ∷ []) plan_big
+    gets 1 (0x4C ∷ 0x33 ∷ 0x01 ∷ 0x00 ∷ 0x53 ∷ 0x32 ∷ 0x00 ∷ 0x01 ∷ 0x70 ∷ 0x11 ∷ 0x01 ∷ 0x00 ∷ []) plan_big
     -- litres in 2 bytes
     ∷ gets 3 (head2 (0x53 ∷ 0x32 ∷ 0x00 ∷ 0x01 ∷ 0x70 ∷ 0x11 ∷ [])) plan_big
     -- the site mark of edition 1
@@ -106,8 +106,8 @@ refusals2 =
     ∷ gets 7 list_big plan_t
     ∷ gets 7 list_t plan_big
     -- also where there is no site, and nothing else refuses
-    ∷ gets 7 (0x4_c ∷ 0x32 ∷ 0x00 ∷ 0x00 ∷ []) (0x50 ∷ 0x4_c ∷ 0x00 ∷ 0x00 ∷ 0x00 ∷ [])
-    ∷ gets 7 (0x4_c ∷ 0x53 ∷ 0x00 ∷ 0x00 ∷ []) (0x50 ∷ 0x32 ∷ 0x00 ∷ 0x00 ∷ 0x00 ∷ [])
+    ∷ gets 7 (0x4C ∷ 0x32 ∷ 0x00 ∷ 0x00 ∷ []) (0x50 ∷ 0x4C ∷ 0x00 ∷ 0x00 ∷ 0x00 ∷ [])
+    ∷ gets 7 (0x4C ∷ 0x53 ∷ 0x00 ∷ 0x00 ∷ []) (0x50 ∷ 0x32 ∷ 0x00 ∷ 0x00 ∷ 0x00 ∷ [])
     -- s in 4 bytes
     ∷ gets 10 list_big (plan2 (0x53 ∷ 0x33 ∷ 0x70 ∷ 0x11 ∷ 0x01 ∷ 0x00 ∷ []))
     -- the share mark of edition 1

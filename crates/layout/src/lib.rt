@@ -1,5 +1,6 @@
 // The store and the table laid in bytes, by the width of a share and of a site's litres and by whether the edition has rolls: what bytes stand for.
 // Numbers and places are read one after another by loops over a width; the widths of both editions are given to them as constants.
+#![tactic(auto)]
 ghost use Rattle.std.specs.Prelude.{◌≡◌, false, cond, ◌<◌, ◌≤◌, ◌+◌, ◌*◌, ◌-◌, ◌^◌, min, length, take, drop, get_or};
 ghost use Rattle.sets.specs.Sum.{any};
 ghost use Rattle.density.specs.Network.{no_site};
@@ -15,7 +16,7 @@ use records::{ListArray, RollArray, no_roll};
 use table::capacity;
 
 // The first words of a store: how many sites it has, whether a plan is held, and of how many groups; and its roll or none.
-#[derive(Drop)]
+#[derive(Clone, Copy)]
 pub struct Header {
     pub count: usize,
     pub held: bool,

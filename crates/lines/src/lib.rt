@@ -1,4 +1,5 @@
 // What is printed of a depot, of a group and of a site of the plan made.
+#![tactic(auto)]
 ghost use Rattle.std.specs.Prelude.{◌≡◌, ◌+◌, ◌*◌, ◌<◌, T};
 ghost use Rattle.density.specs.Groups.{groups_of};
 ghost use Rattle.density.specs.Plan.{Rules};
@@ -9,7 +10,7 @@ ghost use Rattle.lines.specs.Lines.{depot_line, group_line, site_line};
 use figures::Figures;
 
 // What is printed of a depot: its number, its group from 1, W and q.
-#[derive(Drop)]
+#[derive(Clone, Copy)]
 pub struct DepotLine {
     pub depot: u8,
     pub group: u8,
@@ -18,7 +19,7 @@ pub struct DepotLine {
 }
 
 // What is printed of a group: its set of depots, W and q.
-#[derive(Drop)]
+#[derive(Clone, Copy)]
 pub struct GroupLine {
     pub depots: u64,
     pub litres: u64,
@@ -26,14 +27,14 @@ pub struct GroupLine {
 }
 
 // What a depot brings to a site, in q-ths of a litre.
-#[derive(Drop)]
+#[derive(Clone, Copy)]
 pub struct Part {
     pub depot: u8,
     pub share: u64,
 }
 
 // What is printed of a site: what its depots bring, q of the group that carries it, and its litres.
-#[derive(Drop)]
+#[derive(Clone, Copy)]
 pub struct SiteLine {
     pub first: Part,
     pub second: Part,
@@ -42,7 +43,7 @@ pub struct SiteLine {
 }
 
 // A number of q-ths as a mixed fraction: whole units, and a rest of fewer than q.
-#[derive(Drop)]
+#[derive(Clone, Copy)]
 pub struct Fraction {
     pub whole: u64,
     pub rest: u64,

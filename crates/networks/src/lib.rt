@@ -1,4 +1,5 @@
 // Lists to test with, and plans that differ a little from a given one.
+#![tactic(auto)]
 use density::Site;
 use records::{ListArray, PlanArray, RollArray};
 

@@ -1,5 +1,6 @@
 // Reads a list of either edition on standard input, at most 4,167 bytes, makes a plan, and prints it for a person to read: its groups, and what each depot brings to each site.
 // Of a list that is refused it prints the row and what it means.
+#![tactic(auto)]
 ghost use Rattle.std.specs.Prelude.{◌<◌};
 ghost use Rattle.figures.specs.Computed.{Computed};
 

@@ -12,7 +12,7 @@ pub fn edition_of(s: &[u8]) -> Edition
     if s.len() < 2 {
         return edition1();
     }
-    if field(s, 0, 2) == 0x324_c {
+    if field(s, 0, 2) == 0x324C {
         return edition2();
     }
     edition1()

@@ -42,17 +42,17 @@ pub none-refused : read_list edition1 512 [] ≡ refused 1
 unfolding read_list first_row records any value crews_above sites_uncrewed
 none-refused = refl
 
-pub many-refused : read_list edition1 512 (0x4_c ∷ 0x53 ∷ 0x01 ∷ 0x02 ∷ []) ≡ refused 2
+pub many-refused : read_list edition1 512 (0x4C ∷ 0x53 ∷ 0x01 ∷ 0x02 ∷ []) ≡ refused 2
 unfolding read_list first_row records any value crews_above sites_uncrewed
 many-refused = refl
 
 pub marks-first : read_list edition1 512
-    (0x4_c ∷ 0x53 ∷ 0x02 ∷ 0x00 ∷ 0x53 ∷ 0x54 ∷ 0x00 ∷ 0x40 ∷ 0x0_a ∷ 0x00 ∷ 0x53 ∷ 0x55 ∷ 0x00 ∷ 0x01 ∷ 0x0_a ∷ 0x00 ∷ []) ≡ refused 4
+    (0x4C ∷ 0x53 ∷ 0x02 ∷ 0x00 ∷ 0x53 ∷ 0x54 ∷ 0x00 ∷ 0x40 ∷ 0x0A ∷ 0x00 ∷ 0x53 ∷ 0x55 ∷ 0x00 ∷ 0x01 ∷ 0x0A ∷ 0x00 ∷ []) ≡ refused 4
 unfolding read_list first_row records any value crews_above sites_uncrewed
 marks-first = refl
 
 -- T, 50 4C 01 02 00
-pub sites-refused : read_plan edition1 1 (0x50 ∷ 0x4_c ∷ 0x01 ∷ 0x02 ∷ 0x00 ∷ []) ≡ refused 9
+pub sites-refused : read_plan edition1 1 (0x50 ∷ 0x4C ∷ 0x01 ∷ 0x02 ∷ 0x00 ∷ []) ≡ refused 9
 unfolding read_plan first_row records any value
 sites-refused = refl
 
@@ -98,7 +98,7 @@ unfolding read_list first_row records any value crews_above sites_uncrewed
 rolls-refused = (refl, refl, refl, refl, refl)
 
 -- the edition of a list, and that each edition refuses the other's list and plan
-pub editions-told : (edition_of list_t ≡ edition1) × (edition_of list_big ≡ edition2) × (edition_of (0x4_c ∷ 0x33 ∷ []) ≡ edition1) × (edition_of (0x4_c ∷ []) ≡ edition1)
+pub editions-told : (edition_of list_t ≡ edition1) × (edition_of list_big ≡ edition2) × (edition_of (0x4C ∷ 0x33 ∷ []) ≡ edition1) × (edition_of (0x4C ∷ []) ≡ edition1)
 unfolding value
 editions-told = (refl, refl, refl, refl)
 

@@ -14,7 +14,7 @@ use Rattle.records.specs.Outcome.{Outcome, gate}
 abbrev pub edition1 : Edition
 edition1 =
     record {
-      mark = record { list = 0x534_c; site = 0x5453; plan = 0x4_c50; group = 0x5247; share = 0x4853; roll = 0x5244 };
+      mark = record { list = 0x534C; site = 0x5453; plan = 0x4C50; group = 0x5247; share = 0x4853; roll = 0x5244 };
       litres = 2;
       share = 4;
       roll = false;
@@ -24,7 +24,7 @@ edition1 =
 abbrev pub edition2 : Edition
 edition2 =
     record {
-      mark = record { list = 0x324_c; site = 0x3253; plan = 0x3250; group = 0x5247; share = 0x3353; roll = 0x5244 };
+      mark = record { list = 0x324C; site = 0x3253; plan = 0x3250; group = 0x5247; share = 0x3353; roll = 0x5244 };
       litres = 4;
       share = 8;
       roll = true;

@@ -1,4 +1,5 @@
 // Lists and plans as values, and as bytes.
+#![tactic(auto)]
 ghost use Rattle.std.specs.Prelude.{◌≡◌};
 ghost use Rattle.std.proofs.Math.Option.{none};
 ghost use Rattle.records.specs.declared.Read.TheVariants.{Refused};
@@ -13,14 +14,14 @@ pub mod roll;
 pub mod scan;
 
 // A roll as a value, or none: where it is there, the crews of each depot.
-#[derive(Drop)]
+#[derive(Clone, Copy)]
 pub struct RollArray {
     pub there: bool,
     pub crews: [u8; 64],
 }
 
 // A list as a value: its first `count` places are the sites.
-#[derive(Drop)]
+#[derive(Clone, Copy)]
 pub struct ListArray {
     pub count: usize,
     pub sites: [Site; 512],
@@ -28,7 +29,7 @@ pub struct ListArray {
 }
 
 // A plan as a value: its first `count` places of `groups` are the sets, heaviest first; `shares` has one for each site of the list.
-#[derive(Drop)]
+#[derive(Clone, Copy)]
 pub struct PlanArray {
     pub count: usize,
     pub groups: [u64; 64],
@@ -36,7 +37,7 @@ pub struct PlanArray {
 }
 
 // The marks of an edition's records, as numbers of two bytes.
-#[derive(Drop)]
+#[derive(Clone, Copy)]
 pub struct Marks {
     pub list: u64,
     pub site: u64,
@@ -47,7 +48,7 @@ pub struct Marks {
 }
 
 // An edition of the two formats: its marks, the bytes of a site's litres and of a share, and whether a list may end in a roll.
-#[derive(Drop)]
+#[derive(Clone, Copy)]
 pub struct Edition {
     pub mark: Marks,
     pub litres: usize,
@@ -70,9 +71,9 @@ pub fn edition1() -> Edition
     ensures { result ≡ edition1 }
 {
     let mark = Marks {
-        list: 0x534_c,
+        list: 0x534C,
         site: 0x5453,
-        plan: 0x4_c50,
+        plan: 0x4C50,
         group: 0x5247,
         share: 0x4853,
         roll: 0x5244,
@@ -90,7 +91,7 @@ pub fn edition2() -> Edition
     ensures { result ≡ edition2 }
 {
     let mark = Marks {
-        list: 0x324_c,
+        list: 0x324C,
         site: 0x3253,
         plan: 0x3250,
         group: 0x5247,
@@ -106,14 +107,14 @@ pub fn edition2() -> Edition
 }
 
 // What stands at a position: a record's mark, its body and the position behind it; or no record.
-#[derive(Drop)]
+#[derive(Clone, Copy)]
 pub enum Step {
     Record(u64, u64, usize),
     End,
 }
 
 // What a reader answers: how many sites or groups were read, or the row that refuses.
-#[derive(Drop)]
+#[derive(Clone, Copy)]
 pub enum Read {
     Count(usize),
     Refused(u8),
@@ -130,41 +131,41 @@ pub fn row_of(answer: Read) -> u8
     }
 }
 
-#[derive(Drop)]
+#[derive(Clone, Copy)]
 pub struct ListRead {
     pub answer: Read,
     pub list: ListArray,
 }
 
-#[derive(Drop)]
+#[derive(Clone, Copy)]
 pub struct PlanRead {
     pub answer: Read,
     pub plan: PlanArray,
 }
 
 // What a writer answers: the length written, or the row that refuses.
-#[derive(Drop)]
+#[derive(Clone, Copy)]
 pub enum Wrote {
     Length(usize),
     Refused(u8),
 }
 
 // What a writer of a list and of a plan answers: the lengths written, the list's first, or the row that refuses.
-#[derive(Drop)]
+#[derive(Clone, Copy)]
 pub enum WroteBoth {
     Lengths(usize, usize),
     Refused(u8),
 }
 
 // What a roll's record says: whether its mark is wrong, and the roll; or there is none.
-#[derive(Drop)]
+#[derive(Clone, Copy)]
 pub struct RollRead {
     pub mark: bool,
     pub roll: RollArray,
 }
 
 // What the records of a list say: the sites, and whether a mark is wrong, a depot is above 63, or litres are 0.
-#[derive(Drop)]
+#[derive(Clone, Copy)]
 pub struct SitesRead {
     pub sites: [Site; 512],
     pub marks: bool,

@@ -1,4 +1,5 @@
 // The reader of records: a slice and a position in it. A step (`next`) takes the struct apart and calls `record_at` on the slice and the position; `read_records` and `scan` move the reader.
+#![tactic(auto)]
 ghost use Rattle.std.specs.Prelude.{◌≡◌, ◌≤◌, ◌+◌, ◌*◌, length};
 ghost use Rattle.scanner.specs.Scan.{record_at, RecordsRead, AllRead};
 
@@ -12,7 +13,7 @@ pub struct Reader<'a> {
 }
 
 // What is known once a record has been read: whether its mark, or one before it, is wrong; its body; and the position behind it.
-#[derive(Drop)]
+#[derive(Clone, Copy)]
 pub struct Record {
     pub wrong: bool,
     pub body: u64,
@@ -20,7 +21,7 @@ pub struct Record {
 }
 
 // What is known once all records have been read: whether a mark is wrong, and the position behind the last.
-#[derive(Drop)]
+#[derive(Clone, Copy)]
 pub struct End {
     pub wrong: bool,
     pub at: usize,

@@ -1,4 +1,5 @@
 // Lines of a script: words, bytes in hexadecimal, decimal numbers, and a line put together byte by byte.
+#![tactic(auto)]
 ghost use Rattle.std.specs.Prelude.{◌≡◌, cond, ◌≤◌, ◌<◌, ◌+◌, ◌*◌, ◌/◌, min, ltb, length, take, drop, set};
 ghost use Rattle.io.specs.Counts.{IsPrefixLen};
 ghost use Rattle.script.specs.Hex.{digit_of, glyph_of, digits_of, byte_of, bytes_of, all_digits, is_none, is_bytes};
@@ -6,7 +7,7 @@ ghost use Rattle.script.specs.Decimal.{number_of};
 ghost use Rattle.script.specs.Words.{trimmed_of, letters_of, behind_of, word_of, rest_of};
 
 // A number, or none that fits its place.
-#[derive(Drop)]
+#[derive(Clone, Copy)]
 pub enum Number {
     Value(u64),
     Bad,

@@ -1,4 +1,5 @@
 // The calls of the store, on values: what a call that is lent a table of site structs decides.
+#![tactic(auto)]
 ghost use Rattle.std.specs.Prelude.{◌≡◌, List, ℕ, ◌≤◌, length, take};
 ghost use Rattle.density.specs.declared.Site.{Site};
 ghost use Rattle.records.specs.declared.Edition.{Edition};
@@ -21,7 +22,7 @@ use table::capacity;
 use tables::Verdict;
 
 // Places of a table: from one up to another, which is not one of them.
-#[derive(Drop)]
+#[derive(Clone, Copy)]
 pub struct Places {
     pub from: usize,
     pub to: usize,

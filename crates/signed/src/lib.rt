@@ -1,4 +1,5 @@
 // Lengths and rows as the signed numbers that C functions answer.
+#![tactic(auto)]
 ghost use Rattle.std.specs.Prelude.{◌≡◌, ◌<◌, ◌^◌, pos, neg_ℤ};
 
 // A length, as a signed number.

@@ -107,7 +107,7 @@ true-plan-T : TruePlan N (3 ∷ []) (10 ∷ [])
 unfolding starred
 true-plan-T = (starred-known 1 (lit< tt)).plan
 
-accepts-T : Proposes loaded_t (call Propose (plans_t 0x0_a) []) (reply done []) planned_t
+accepts-T : Proposes loaded_t (call Propose (plans_t 0x0A) []) (reply done []) planned_t
 unfolding plan_bytes le flat_map
 accepts-T = inl (record { groups = 3 ∷ []; shares = 10 ∷ [] }, laid sites_t (3 ∷ []) (10 ∷ []) true-plan-T (lit≤ tt) fits, refl, refl)
   where
@@ -137,11 +137,11 @@ depot-T-1 : turned planned_t (reply (loaded 10 2) []) ≡ turn planned_t (call (
 unfolding first_row network any sum has weigh size place carrier group_size group_litres
 depot-T-1 = ap₂ (λ (w q : ℕ). turned planned_t (reply (loaded w q) [])) (litres-T 1) (size-T 1)
 
-writes-T : turned planned_t (reply (wrote 21) (plans_t 0x0_a ++ (7 ∷ []))) ≡ turn planned_t (call Written [] (replicate 22 7))
+writes-T : turned planned_t (reply (wrote 21) (plans_t 0x0A ++ (7 ∷ []))) ≡ turn planned_t (call Written [] (replicate 22 7))
 unfolding first_row plan_bytes le flat_map
 writes-T = refl
 
-refuses-T : first_row (model_rows planned_t (call Propose (plans_t 0x0_b) [])) ≡ some 15
+refuses-T : first_row (model_rows planned_t (call Propose (plans_t 0x0B) [])) ≡ some 15
 unfolding first_row value records sum any has weigh size network plan_rows groups_meet groups_unlisted shares_broken share_broken loads_uneven scaled_load share_of target groups_rise place union carrier group_size group_litres whole first_share second_share
 refuses-T = refl
 
@@ -156,7 +156,7 @@ modelled-T =
     next loads-T
     (next accepts-T
     (next shares-T
-    (next depot-T-0 (next differs-T (next writes-T (next (refuses edition1 marked1 sites_t planned_t.plan (plans_t 0x0_b) 15 in-range-T (lit≤ tt) refuses-T) (next depot-T-1 start)))))))
+    (next depot-T-0 (next differs-T (next writes-T (next (refuses edition1 marked1 sites_t planned_t.plan (plans_t 0x0B) 15 in-range-T (lit≤ tt) refuses-T) (next depot-T-1 start)))))))
 
 -- ---- own 0 and own 1 of 4
 
@@ -363,7 +363,7 @@ modelled-M =
 abbrev WritesOut : Model → List ℕ → ℕ → List ℕ → Type 0
 WritesOut b buffer n after = turned b (reply (wrote n) after) ≡ turn b (call ListWritten [] buffer)
 
-empty-out : WritesOut empty_t (replicate 4 7) 4 (0x4_c ∷ 0x53 ∷ 0x00 ∷ 0x00 ∷ [])
+empty-out : WritesOut empty_t (replicate 4 7) 4 (0x4C ∷ 0x53 ∷ 0x00 ∷ 0x00 ∷ [])
 unfolding first_row list_bytes le flat_map
 empty-out = refl
 
@@ -750,7 +750,7 @@ history-H = has-history marked2 (events calls_h) replies_h added_h modelled-H (a
 
 -- the proposal that passed last, by these calls and replies, on a table of any places: of T its plan, of the own sites none after the change, of the pair the second, of the lists
 -- written out none after a site was added
-pub last-T : (table : List Site) → (trace edition1 table (events calls_t) replies_t).proposal ≡ some (record { edition = edition1; bytes = plans_t 0x0_a })
+pub last-T : (table : List Site) → (trace edition1 table (events calls_t) replies_t).proposal ≡ some (record { edition = edition1; bytes = plans_t 0x0A })
 unfolding traced
 last-T table = refl
 

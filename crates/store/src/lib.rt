@@ -1,11 +1,12 @@
 // The desk of document 01 (here: store): what each call does, over a table of sites that the caller lends.
+#![tactic(auto)]
 use density::Site;
 use held_state::Store;
 
 pub mod decide;
 
 // What a call asks for. The number of `AtLeast` is a threshold in litres per crew (document 02: a mark). `Written` is the plan written out, `ListWritten` the list (document 02, b).
-#[derive(Drop)]
+#[derive(Clone, Copy)]
 pub enum Request {
     Load,
     Change(usize, u32),
@@ -20,7 +21,7 @@ pub enum Request {
 }
 
 // What a call answers.
-#[derive(Drop)]
+#[derive(Clone, Copy)]
 pub enum Answer {
     Refused(u8),
     Done,
@@ -32,7 +33,7 @@ pub enum Answer {
 }
 
 // What a call does: its answer, the store after it, and the sites of which the first n go to the table.
-#[derive(Drop)]
+#[derive(Clone, Copy)]
 pub struct Decision {
     pub answer: Answer,
     pub store: Store,

@@ -1,4 +1,5 @@
 // The entries of edition 2 of document 02, c: a store call over a lent table, and over a table by value. Its store, sites and requests are those of the definition.
+#![tactic(auto)]
 ghost use Rattle.std.specs.Prelude.{◌≡◌, take, drop};
 ghost use Rattle.records.specs.Format.{edition2};
 ghost use Rattle.store.specs.State.{step};
@@ -13,14 +14,14 @@ use store::{Answer, Decision, Request};
 use table::places_on;
 
 // What a call of edition 2 gives back.
-#[derive(Drop)]
+#[derive(Clone, Copy)]
 pub struct Out2 {
     pub answer: Answer,
     pub store: Store,
 }
 
 // What a call gives back to a program that owns its table.
-#[derive(Drop)]
+#[derive(Clone, Copy)]
 pub struct OutOn2 {
     pub answer: Answer,
     pub store: Store,

@@ -1,5 +1,6 @@
 // Check and Make beside the plain count over all sets: every small list, and random ones, without a roll and with one, with isolated depots and without. Then lists with more
 // isolated depots than the count takes.
+#![tactic(auto)]
 ghost use Rattle.std.specs.Prelude.{◌≤◌};
 
 use exhaustive::{has_groups, is_small, is_true};
@@ -10,7 +11,7 @@ use tables::Verdict;
 
 // What came out: lists, plans of Make that the count finds false or grouped otherwise, plans judged, those that are true, and
 // those of which the check and the count say different things.
-#[derive(Drop)]
+#[derive(Clone, Copy)]
 struct Tally {
     lists: u64,
     unfit: u64,

@@ -1,5 +1,6 @@
 // A table of sites that the caller lends: thin functions over it, and a copy of it by value.
 // A lent table has its edition's widths by type: that of edition 1 has sites with two-byte litres, that of edition 2 (`wide`) sites as the definition has them.
+#![tactic(auto)]
 ghost use Rattle.std.specs.Prelude.{◌≡◌, map, ◌<◌, ◌≤◌, min, length, get_or, set};
 ghost use Rattle.table.specs.Table.{between, held_of, places_on};
 ghost use Rattle.table.specs.Widths.{no_site1, widened, LitresFit};
@@ -10,7 +11,7 @@ pub mod values;
 pub mod wide;
 
 // A site of edition 1.
-#[derive(Drop)]
+#[derive(Clone, Copy)]
 pub struct Site1 {
     pub first: u8,
     pub second: u8,

@@ -1,4 +1,5 @@
 // What rows 12 to 16 are tried on: the listed depots, the crews and the place of each depot, and q and W of each group.
+#![tactic(auto)]
 ghost use Rattle.std.specs.Prelude.{◌≡◌, false, cond, ◌<◌, ◌≤◌, ◌^◌, max, T, length, get_or};
 ghost use Rattle.sets.specs.Set.{◌∪◌, has, set_of};
 ghost use Rattle.density.specs.Network.{Listing, names, crews_of, enrolled, network, crews_above, in_range};
@@ -10,14 +11,14 @@ use density::Site;
 use records::{ListArray, RollArray, roll};
 
 // What the check answers: a refusal is the row's number.
-#[derive(Drop)]
+#[derive(Clone, Copy)]
 pub enum Verdict {
     Passes,
     Refused(u8),
 }
 
 // What one pass over the sites finds: the listed depots, whether a share breaks a rule, and, where none does, W of each group.
-#[derive(Drop)]
+#[derive(Clone, Copy)]
 pub struct Tally {
     pub listed: u64,
     pub broken: bool,
@@ -25,7 +26,7 @@ pub struct Tally {
 }
 
 // What rows 12 to 14 leave to the later rows: the listed depots, the place of each depot, and q and W of each group.
-#[derive(Drop)]
+#[derive(Clone, Copy)]
 pub struct Form {
     pub verdict: Verdict,
     pub listed: u64,

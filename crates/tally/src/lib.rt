@@ -1,7 +1,8 @@
 // How many answers of a test program were asked for, and how many were right.
+#![tactic(auto)]
 use libc::STDOUT_FILENO;
 
-#[derive(Drop)]
+#[derive(Clone, Copy)]
 pub struct Tally {
     pub asked: u64,
     pub right: u64,

@@ -1,4 +1,5 @@
 // The writers of a list and of a plan.
+#![tactic(auto)]
 ghost use Rattle.std.specs.Prelude.{◌≡◌, ◌≤◌, ◌+◌, length, take};
 ghost use Rattle.records.specs.declared.Edition.{Edition};
 ghost use Rattle.records.specs.Values.{roll_in, listing, plan_in};
