@@ -1,5 +1,5 @@
 -- `exhaustive::all_groups` is safe and ends: the loop's counter is at most 16.
-use Rattle.std.proofs.Common.{◌-◌, arith}
+use Rattle.std.proofs.Common.{arith}
 use Rattle.exhaustive.proofs.all_groups.Goals as goal
 
 pub listed-free-requires : goal.listed-free-requires

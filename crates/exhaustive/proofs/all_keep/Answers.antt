@@ -1,5 +1,5 @@
 -- `exhaustive::all_keep` is safe and ends: the loop's counter is at most 16.
-use Rattle.std.proofs.Common.{◌-◌, arith}
+use Rattle.std.proofs.Common.{arith}
 use Rattle.exhaustive.proofs.all_keep.Goals as goal
 
 pub loop-i-init : goal.loop-i-init

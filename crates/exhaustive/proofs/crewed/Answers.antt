@@ -1,5 +1,5 @@
 -- `exhaustive::crewed` is safe and ends: the loop's counter is at most 64.
-use Rattle.std.proofs.Common.{◌-◌, arith}
+use Rattle.std.proofs.Common.{arith}
 use Rattle.exhaustive.proofs.crewed.Goals as goal
 
 pub loop-d-init : goal.loop-d-init

@@ -1,5 +1,5 @@
 -- `exhaustive::has_groups` is safe and ends: the loop's counter is at most 64.
-use Rattle.std.proofs.Common.{◌-◌, arith}
+use Rattle.std.proofs.Common.{arith}
 use Rattle.exhaustive.proofs.has_groups.Goals as goal
 
 pub groups-found-requires : goal.groups-found-requires

@@ -1,5 +1,5 @@
 -- `exhaustive::next_group` is safe and ends: the loop's counter is at most 4096.
-use Rattle.std.proofs.Common.{◌-◌, arith}
+use Rattle.std.proofs.Common.{arith}
 use Rattle.exhaustive.proofs.next_group.Goals as goal
 
 pub returns-then-free-gt4095 : goal.returns-then-free-gt4095

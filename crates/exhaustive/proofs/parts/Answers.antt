@@ -1,5 +1,5 @@
 -- `exhaustive::parts` is safe and ends: the loop's counter is at most 16.
-use Rattle.std.proofs.Common.{◌-◌, arith}
+use Rattle.std.proofs.Common.{arith}
 use Rattle.exhaustive.proofs.parts.Goals as goal
 
 pub no_site-requires : goal.no_site-requires

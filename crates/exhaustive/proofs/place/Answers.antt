@@ -1,5 +1,5 @@
 -- `exhaustive::place` is safe and ends: the loop's counter is at most 16.
-use Rattle.std.proofs.Common.{◌-◌, arith}
+use Rattle.std.proofs.Common.{arith}
 use Rattle.exhaustive.proofs.place.Goals as goal
 
 pub loop-k-init : goal.loop-k-init

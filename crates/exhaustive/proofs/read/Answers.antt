@@ -1,5 +1,5 @@
 -- `exhaustive::read` is safe and ends: the loop's counter is at most 16.
-use Rattle.std.proofs.Common.{◌-◌, arith}
+use Rattle.std.proofs.Common.{arith}
 use Rattle.exhaustive.proofs.read.Goals as goal
 
 pub no_site-out-requires : goal.no_site-out-requires

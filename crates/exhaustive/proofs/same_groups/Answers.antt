@@ -1,5 +1,5 @@
 -- `exhaustive::same_groups` is safe and ends: the loop's counter is at most 16.
-use Rattle.std.proofs.Common.{◌-◌, arith}
+use Rattle.std.proofs.Common.{arith}
 use Rattle.exhaustive.proofs.same_groups.Goals as goal
 
 pub loop-k-init : goal.loop-k-init

@@ -1,5 +1,5 @@
 -- `exhaustive::size` is safe and ends: the loop's counter is at most 12.
-use Rattle.std.proofs.Common.{◌-◌, arith}
+use Rattle.std.proofs.Common.{arith}
 use Rattle.exhaustive.proofs.size.Goals as goal
 
 pub loop-d-init : goal.loop-d-init

@@ -1,5 +1,4 @@
 -- `residual::reach` meets its contract. Assumes nothing.
-use Prim.Native.Nat.{◌-◌}
 use native.Mathlib.Omega.{arith}
 use Rattle.residual.proofs.Reaching.{reach-begins, reach-placed, reach-goes, reach-ends}
 use Rattle.residual.proofs.reach.Goals as goal

@@ -1,6 +1,5 @@
 -- `tables::crews` meets its contract. The invariant: the places passed hold the crews. Assumes nothing.
 use mathlib.Core.Path.{sym, ◌∙◌}
-use Prim.Native.Nat.{◌-◌}
 use native.Mathlib.Omega.{arith}
 use borrow.Author.Tests.{not-true}
 use lib.ListN.{get_or-replicate}

@@ -1,7 +1,5 @@
 -- `tables::enrolled` meets its contract. The invariant: the set has the depots passed that the roll has crews for. Assumes nothing.
 use mathlib.Core.Path.{◌≡◌, sym, ap, ◌∙◌}
-use mathlib.Core.Logic.{⊎_elim}
-use Prim.Native.Nat.{◌-◌}
 use native.Mathlib.Omega.{arith}
 use borrow.Author.Tests.{not-true, not-false}
 use Rattle.sets.specs.Set.{set_of}
@@ -9,7 +7,7 @@ use Rattle.sets.proofs.Set.{set_of-start}
 use Rattle.tables.proofs.Gathered.{enrolled-none, enrolled-some, enrolled-takes, enrolled-skips}
 use borrow.Author.Rules.{rules}
 use Rattle.tables.proofs.enrolled.Goals as goal
-use Rattle.tables.proofs.enrolled.Goals.{At-loop-d}
+use Rattle.tables.proofs.enrolled.Goals.{At-loop-d, then-roll-d-gt0, else-roll-d-gt0}
 
 pub returns-then-not-roll : goal.returns-then-not-roll
 returns-then-not-roll c = enrolled-none c.args.roll (not-true _ c.if-not-roll.true-raw)
@@ -22,9 +20,10 @@ loop-d-preserved c =
     let at = (goal.at.loop-d-preserved c).At-loop-d in
     let crews = at.args.roll.crews in (
       search rules,
-      ⊎_elim (λ w. enrolled-takes crews at.loop-d.d c.loop-d-test.true at.loop-d.invariant.1 w.0.taken w.1.ensures w.2)
-          (λ w. enrolled-skips crews at.loop-d.d c.loop-d-test.true at.loop-d.invariant.1 w.0.left w.1)
-          c.if-roll-d-gt0.branch,
+      elim c.if-roll-d-gt0.branch [
+        | then-roll-d-gt0 w ↦ enrolled-takes crews at.loop-d.d c.loop-d-test.true at.loop-d.invariant.1 w.if-roll-d-gt0.true w.with-set.ensures w.set-is
+        | else-roll-d-gt0 w ↦ enrolled-skips crews at.loop-d.d c.loop-d-test.true at.loop-d.invariant.1 w.if-roll-d-gt0.false w.set-is
+      ],
     )
 
 pub returns : goal.returns

@@ -1,8 +1,7 @@
 -- `tables::listed` meets its contract. The invariant: the set has the depots with crews in the roll and those that the sites passed name. Assumes nothing.
 use mathlib.Core.Path.{◌≡◌, ◌∙◌}
-use Prim.Native.Nat.{◌-◌}
 use native.Mathlib.Omega.{arith}
-use lib.ListN.{length, length-map}
+use lib.ListN.{length}
 use Rattle.density.specs.Network.{enrolled}
 use Rattle.records.specs.Values.{roll_in}
 use Rattle.tables.proofs.Sites.{site-small, named_start, named_more, named_end}
@@ -18,7 +17,7 @@ abbrev start : In-loop-i → Start
 start t = entered (goal.at.In-loop-i t).After-enrolled-set
 
 wide : (s : Start) → length s.args.list.sites ≡ 512
-wide s = simp length-map at s.well_formed.0.1.1.1.0.1.0.1
+wide s = search rules
 
 pub loop-i-init : goal.loop-i-init
 loop-i-init c =

@@ -1,6 +1,6 @@
 -- `tables::litres` meets its contract. The invariant: each place has the litres of the sites passed that it carries. Assumes nothing.
 use mathlib.Core.Path.{refl}
-use Prim.Native.Nat.{◌-◌, ◌<◌, ◌^◌}
+use Prim.Native.Nat.{◌<◌, ◌^◌}
 use native.Mathlib.Omega.{arith}
 use native.Mathlib.Nat.{le_of_suc-le}
 use Rattle.tables.proofs.Totals.{summed-zero, summed-one, carried, litres-end}

@@ -1,5 +1,4 @@
 -- `tables::sizes` meets its contract. The invariant: the places passed hold q of their groups, in any network whose crews the weights are. Assumes nothing.
-use Prim.Native.Nat.{◌-◌}
 use native.Mathlib.Omega.{arith}
 use Rattle.density.specs.Network.{network}
 use Rattle.tables.proofs.Groups.{crews-net, crews-one, crews-few, sizes-more}
@@ -24,7 +23,7 @@ pub weight-requires : goal.weight-requires
 weight-requires c =
     let m = counted (looped c) in
     let s = start m in
-    ((search rules, crews-few s.args.roll m.crews-weights.result m.crews-weights.ensures s.requires.0), crews-one s.args.roll m.crews-weights.result m.crews-weights.ensures)
+    record { weights_len = (search rules, crews-few s.args.roll m.crews-weights.result m.crews-weights.ensures s.requires.0); d_value = crews-one s.args.roll m.crews-weights.result m.crews-weights.ensures }
 
 pub loop-k-preserved : goal.loop-k-preserved
 loop-k-preserved c =
