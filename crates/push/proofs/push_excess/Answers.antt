@@ -1,20 +1,20 @@
 -- `push::push_excess` meets its contract. Assumes nothing.
 use mathlib.Core.Path.{◌≡◌, refl, sym, ◌∙◌}
-use mathlib.Core.Bool.{Bool, true, false, not}
+use mathlib.Core.Bool.{Bool, true, false}
 use mathlib.Core.Logic.{inl, inr}
 use Prim.Native.Nat.{ℕ, ◌≤◌, ◌<◌}
 use native.Mathlib.Omega.{arith}
 use lib.Dec.{ltb}
 use lib.ListN.{length-set}
-use borrow.Author.Tests.{ltb-true, ltb-false, not-true, not-false}
+use borrow.Author.Tests.{ltb-true, ltb-false}
 use Rattle.residual.proofs.Pushing.{across, no-admissible, admissible, movable}
 use Rattle.push.proofs.push_excess.Goals as goal
 
-leads : (a b : ℕ) (r : Bool) → r ≡ ltb a b → not r ≡ false → a < b
-leads a b r e h = ltb-true a b (sym e ∙ not-false r h)
+leads : (a b : ℕ) (r : Bool) → r ≡ ltb a b → r ≡ true → a < b
+leads a b r e h = ltb-true a b (sym e ∙ h)
 
-leads-not : (a b : ℕ) (r : Bool) → r ≡ ltb a b → not r ≡ true → b ≤ a
-leads-not a b r e h = ltb-false a b (sym e ∙ not-true r h)
+leads-not : (a b : ℕ) (r : Bool) → r ≡ ltb a b → r ≡ false → b ≤ a
+leads-not a b r e h = ltb-false a b (sym e ∙ h)
 
 pub leads_earlier-requires : goal.leads_earlier-requires
 leads_earlier-requires c =
@@ -22,7 +22,7 @@ leads_earlier-requires c =
     record { ends_len = (t.loaded.arcs, t.arc_at.ranks); u_bound = (t.arc_at.depot, t.arc_at.arc, across t.arc_at _ refl) }
 
 pub returns-then-not-leads_earlier : goal.returns-then-not-leads_earlier
-returns-then-not-leads_earlier c = inl (refl, refl, λ over. no-admissible c.requires.arc_at _ refl (leads-not _ _ _ c.leads_earlier.ensures c.if-not-leads_earlier.true-raw))
+returns-then-not-leads_earlier c = inl (refl, refl, λ over. no-admissible c.requires.arc_at _ refl (leads-not _ _ _ c.leads_earlier.ensures c.if-not-leads_earlier.true))
 
 pub offset_bounds-load-u : goal.offset_bounds-load-u
 offset_bounds-load-u c = omega arith
@@ -49,7 +49,7 @@ pub push-requires : goal.push-requires
 push-requires c =
     let t = c.requires in
     let e = c.spare-m.ensures in
-    record { loaded = t.loaded; movable = rw e (movable t.arc_at (omega arith) (admissible t.arc_at _ refl (leads _ _ _ c.leads_earlier.ensures c.if-not-leads_earlier.false-raw) (λ z. omega arith))) }
+    record { loaded = t.loaded; movable = rw e (movable t.arc_at (omega arith) (admissible t.arc_at _ refl (leads _ _ _ c.leads_earlier.ensures c.if-not-leads_earlier.false) (λ z. omega arith))) }
 
 pub shape_of-share : goal.shape_of-share
 shape_of-share c = rw c.push.ensures.0 (simp length-set)
@@ -61,4 +61,4 @@ pub returns : goal.returns
 returns c =
     let t = c.requires in
     let e = c.spare-m.ensures in
-    inr (omega arith, admissible t.arc_at _ refl (leads _ _ _ c.leads_earlier.ensures c.if-not-leads_earlier.false-raw) (λ z. omega arith), rw (← e) c.push.ensures)
+    inr (omega arith, admissible t.arc_at _ refl (leads _ _ _ c.leads_earlier.ensures c.if-not-leads_earlier.false) (λ z. omega arith), rw (← e) c.push.ensures)
