@@ -1,5 +1,6 @@
 // A line of a script turned into a command. The top of crates/console/src/main.rt says what the lines mean.
 #![tactic(auto)]
+
 ghost use Rattle.std.specs.Prelude.{◌≡◌, ◌∷◌};
 ghost use Rattle.script.specs.Decimal.{number_of};
 ghost use Rattle.script.specs.Words.{words_of};
