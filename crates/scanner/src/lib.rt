@@ -1,12 +1,13 @@
 // The reader of records: a slice and a position in it. A step (`next`) takes the struct apart and calls `record_at` on the slice and the position; `read_records` and `scan` move the reader.
 #![tactic(auto)]
+
 ghost use Rattle.std.specs.Prelude.{◌≡◌, ◌≤◌, ◌+◌, ◌*◌, length};
 ghost use Rattle.scanner.specs.Scan.{record_at, RecordsRead, AllRead};
 
 use records::{number, scan};
 
 // A reader of records: the bytes, and the position of the next record.
-#[derive(Drop)]
+#[derive(Clone, Copy)]
 pub struct Reader<'a> {
     pub src: &'a [u8],
     pub at: usize,
