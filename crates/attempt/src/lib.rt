@@ -1,6 +1,7 @@
 // One attempt to level a set of depots: lays its sites on them, and pushes the shares as far as the sites allow.
 // A site i has two arcs, i at its first depot and 512 + i at its second: `ends` has their depots, 64 where there is no site, `share` what each has.
 #![tactic(auto)]
+
 ghost use Rattle.std.specs.Prelude.{◌≡◌, cond, ◌&&◌, ◌||◌, ℕ, ◌+◌, ◌*◌, ◌<◌, ◌^◌, length};
 ghost use Rattle.sets.specs.Set.{has};
 ghost use Rattle.residual.specs.Array.{at, total_load};

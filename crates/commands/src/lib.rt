@@ -1,5 +1,6 @@
 // A line of a script turned into a command. The top of crates/console/src/main.rt says what the lines mean.
 #![tactic(auto)]
+
 ghost use Rattle.std.specs.Prelude.{◌≡◌, ◌∷◌};
 ghost use Rattle.script.specs.Decimal.{number_of};
 ghost use Rattle.script.specs.Words.{words_of};
@@ -143,19 +144,19 @@ fn at_least(text: &[u8]) -> Command
 fn reads(name: &[u8], word: &[u8]) -> Command
     ensures { result ≡ reads name.now word.now }
 {
-    if check::same(name, b"share") {
+    if script::same(name, b"share") {
         return share(word);
     }
-    if check::same(name, b"depot") {
+    if script::same(name, b"depot") {
         return depot(word);
     }
-    if check::same(name, b"written") {
+    if script::same(name, b"written") {
         return written(word);
     }
-    if check::same(name, b"atleast") {
+    if script::same(name, b"atleast") {
         return at_least(word);
     }
-    if check::same(name, b"list") {
+    if script::same(name, b"list") {
         return list(word);
     }
     Command::Bad
@@ -165,19 +166,19 @@ fn reads(name: &[u8], word: &[u8]) -> Command
 fn one_word(name: &[u8], word: &[u8]) -> Command
     ensures { result ≡ one_word name.now word.now }
 {
-    if check::same(name, b"table") {
+    if script::same(name, b"table") {
         return table(word);
     }
-    if check::same(name, b"table2") {
+    if script::same(name, b"table2") {
         return table2(word);
     }
-    if check::same(name, b"load") {
+    if script::same(name, b"load") {
         return given(word, Command::Call(Request::Load));
     }
-    if check::same(name, b"propose") {
+    if script::same(name, b"propose") {
         return given(word, Command::Call(Request::Propose));
     }
-    if check::same(name, b"migrate") {
+    if script::same(name, b"migrate") {
         return migrate(word);
     }
     reads(name, word)
@@ -240,10 +241,10 @@ fn convert(back: bool, len: &[u8]) -> Command
 fn direction_of(name: &[u8]) -> Direction
     ensures { result ≡ direction_of name.now }
 {
-    if check::same(name, b"upgrade") {
+    if script::same(name, b"upgrade") {
         return Direction::Back(false);
     }
-    if check::same(name, b"downgrade") {
+    if script::same(name, b"downgrade") {
         return Direction::Back(true);
     }
     Direction::None
@@ -253,16 +254,16 @@ fn direction_of(name: &[u8]) -> Direction
 fn two_words(name: &[u8], a: &[u8], b: &[u8], most: u32) -> Command
     ensures { result ≡ two_words most name.now a.now b.now }
 {
-    if check::same(name, b"change") {
+    if script::same(name, b"change") {
         return change(a, b, most);
     }
-    if check::same(name, b"difference") {
+    if script::same(name, b"difference") {
         return difference(a, b);
     }
-    if check::same(name, b"check") {
+    if script::same(name, b"check") {
         return given(a, given(b, Command::Check));
     }
-    if check::same(name, b"make") {
+    if script::same(name, b"make") {
         return given(a, make(b));
     }
     let Direction::Back(back) = direction_of(name) else {
@@ -291,7 +292,7 @@ fn add(first: &[u8], second: &[u8], litres: &[u8], most: u32) -> Command
 fn three_words(name: &[u8], a: &[u8], b: &[u8], c: &[u8], most: u32) -> Command
     ensures { result ≡ three_words most name.now a.now b.now c.now }
 {
-    if check::same(name, b"add") {
+    if script::same(name, b"add") {
         return add(a, b, c, most);
     }
     Command::Bad

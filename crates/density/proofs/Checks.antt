@@ -7,7 +7,7 @@ use mathlib.Core.Option.{none}
 use Prim.Native.Nat.{ℕ, ◌-◌, ◌<◌}
 use native.Mathlib.Nat.{lt_of_not-le, lt_irrefl, lt_of_lt_of_le}
 use native.Mathlib.Omega.{arith}
-use lib.Dec.{T, T_not, not_T, eqb, leb, ltb, eqb→eq, leb→le, le→leb, ltb→lt, lt→ltb, nltb→le}
+use lib.Dec.{T, T_not, not_T, eqb, ltb, eqb→eq, leb→le, le→leb, ltb→lt, lt→ltb, nltb→le}
 use lib.ListN.{length}
 use Rattle.sets.specs.Sum.{any}
 use Rattle.sets.specs.Set.{◌∩◌, is_empty}

@@ -4,10 +4,10 @@ use mathlib.Core.List.{List}
 use Prim.Native.Nat.{ℕ, zero, suc, ◌-◌, ◌*◌, ◌<◌, ◌≤◌}
 use native.Mathlib.Nat.{mul_comm, not-suc-le-zero}
 use lib.Dec.{ltb, lt→ltb}
-use lib.IntN.{ℤ, pos, negsuc, neg_ℤ, ◌-ℤ◌, ◌+ℤ◌, +ℤ_invr, +ℤ_comm, neg_ℤ-+ℤ, neg_ℤ-neg_ℤ}
+use lib.IntN.{pos, negsuc, neg_ℤ, ◌-ℤ◌, ◌+ℤ◌, +ℤ_invr, +ℤ_comm, neg_ℤ-+ℤ, neg_ℤ-neg_ℤ}
 use lib.ListN.{length}
 use Rattle.sets.specs.Sum.{sum}
-use Rattle.density.specs.Network.{Network, Valid, litres}
+use Rattle.density.specs.Network.{Network, Valid}
 use Rattle.density.specs.Groups.{Decomposition, groups_of}
 use Rattle.density.specs.Plan.{place, group_size, group_litres, whole}
 use Rattle.density.specs.Figures.{depot_litres, depot_size, site_whole, difference, divisor}

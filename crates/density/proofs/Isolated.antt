@@ -5,14 +5,13 @@ use mathlib.Core.Logic.{◌↔◌, ⊎_elim}
 use mathlib.Core.Bool.{Bool, true, false, not, ◌&&◌, ◌||◌}
 use mathlib.Core.List.{List}
 use Prim.Native.Nat.{ℕ, suc, ◌*◌, ◌≤◌, ◌<◌}
-use native.Mathlib.Nat.{le_trans, le_of_suc-le, lt_irrefl, eq-zero-or-pos, eq-or-lt_of_le, mul-le-mul_right, le_of_mul-le-mul_right, mul_comm}
+use native.Mathlib.Nat.{le_trans, lt_irrefl, eq-zero-or-pos, eq-or-lt_of_le, mul-le-mul_right, le_of_mul-le-mul_right, mul_comm}
 use native.Mathlib.Omega.{arith}
 use lib.Dec.{T, T_not, not_T, eqb, ltb, eqb→eq, lt→ltb, ltb→lt}
 use lib.ListN.{length}
-use Rattle.sets.specs.Sum.{when, sum, any}
-use Rattle.sets.specs.Set.{Depots, only, ∅, ◌∪◌, ◌∖◌, ◌⊆◌, Apart, Nonempty}
+use Rattle.sets.specs.Sum.{when, any}
+use Rattle.sets.specs.Set.{Depots, only, ∅, ◌∪◌, ◌∖◌, ◌⊆◌}
 use Rattle.density.specs.Network.{Listing, Network, Valid, named, enrolled, network, names, touches, within, counts, litres, size}
-use Rattle.density.specs.declared.Site.{Site}
 use Rattle.density.specs.Groups.{Candidate, Next, Decomposition}
 use Rattle.density.specs.Plan.{group, before, place, carrier, group_litres, group_size, Falling}
 use Rattle.density.specs.Isolated.{isolated, NoSiteStands, TheirGroup, IsolatedLast}
@@ -20,8 +19,8 @@ use Rattle.sets.proofs.Test.{or_l, or_r, or_cases, and_i, and_l, and_r, T?, T-ex
 use Rattle.sets.proofs.Sum.{sum_mono, sum-term, sum-zero, any_at, any-from, any-cong}
 use Rattle.density.proofs.Litres.{size-lt, size-pos, litres-empty, some?}
 use Rattle.density.proofs.Next.{at_most}
-use Rattle.density.proofs.Places.{before-suc, →before, →group, group→, follow-next}
-use Rattle.density.proofs.Plans.{union→, →union, group-place, group-litres, complete}
+use Rattle.density.proofs.Places.{before-suc, →group, follow-next}
+use Rattle.density.proofs.Plans.{union→, group-litres, complete}
 
 unfoldable idle : Network → Depots
 idle N d = N.listed d && not (any (λ i. names (N.site i) d && ltb 0 (N.site i).litres) N.count)

@@ -12,7 +12,6 @@ use Rattle.sets.specs.Set.{Depots, ◌∪◌, ◌⊆◌, weigh}
 use Rattle.density.specs.Network.{Network, Valid, end, touches, within, counts, litres, size}
 use Rattle.density.specs.declared.Site.{Site}
 use Rattle.density.specs.Groups.{Candidate}
-use Rattle.density.specs.Plan.{whole}
 use Rattle.sets.proofs.Test.{or_l, or_r, or_cases, or_swap, and_i, and_l, and_r, and_mono, T?, when-on, when-off, when-zero}
 use Rattle.sets.proofs.Sum.{sum-cong, sum_mono, sum_lt, sum-zero, sum-add, sum-mul, sum-swap, sum-pick, sum-when}
 use Rattle.density.proofs.Sound.{Dense}

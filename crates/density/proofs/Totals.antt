@@ -9,9 +9,9 @@ use native.Mathlib.Omega.{arith}
 use lib.Arith.{lt_of_le-ne}
 use lib.Dec.{T, eqb, ltb, eqb→eq, ltb→lt, lt→ltb}
 use lib.ListN.{length}
-use Rattle.sets.specs.Sum.{when, sum, all}
+use Rattle.sets.specs.Sum.{when, sum}
 use Rattle.sets.specs.Set.{Depots}
-use Rattle.density.specs.Network.{Network, Valid, litres, size, end}
+use Rattle.density.specs.Network.{Network, Valid, size, end}
 use Rattle.density.specs.declared.Site.{Site}
 use Rattle.density.specs.Plan.{union, group, place, carrier, group_litres, first_share, second_share, Rules, share_of, load, Falling}
 use Rattle.density.specs.Rows.{scaled_load}

@@ -1,5 +1,5 @@
 -- Document 02, h): the depots without sites, and the group that they form.
-use Rattle.std.specs.Prelude.{◌≡◌, ◌↔◌, Bool, not, ◌&&◌, List, ℕ, suc, ◌<◌, T, length}
+use Rattle.std.specs.Prelude.{◌≡◌, ◌↔◌, not, ◌&&◌, List, ℕ, suc, ◌<◌, T, length}
 use Rattle.sets.specs.Sum.{any}
 use Rattle.sets.specs.Set.{Depots, Nonempty}
 use Rattle.density.specs.Network.{Network, names, size}

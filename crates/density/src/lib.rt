@@ -1,5 +1,6 @@
 // The definition of document 01 and its theorems stand in specs/ and proofs/. There is no function here; this is the site that they speak of.
 #![tactic(auto)]
+
 #[derive(Clone, Copy)]
 pub struct Site {
     pub first: u8,

@@ -1,6 +1,7 @@
 // Groups and plans by a plain count over all sets of depots, from document 01, "Depots, sites, groups", and document 02, g and h. It shares nothing with the engine but the
 // types of a list and of a plan. For lists of at most 16 sites whose listed depots are below 12; `is_small` says whether a list is one.
 #![tactic(auto)]
+
 use density::Site;
 use records::{ListArray, PlanArray};
 

@@ -1,10 +1,12 @@
 // Document 01's lists with known plans, and lists with crews and isolated depots, counted over all sets.
 #![tactic(auto)]
+
 use exhaustive::{has_groups, is_small, is_true};
 use networks::{
     no_groups, no_sites, with_crews, with_crews_below, with_group, with_share, with_site,
 };
 use records::{ListArray, PlanArray};
+use std::io;
 use tally::{Tally, tallied};
 
 fn one_site(a: u8, b: u8, w: u32) -> ListArray {
@@ -222,12 +224,12 @@ fn false_others(start: Tally) -> Tally {
     untrue(t, triangle(), shares(one_group(7), 3, 2))
 }
 
-fn main() {
+fn main(rt: HostRuntime) -> io::Result<()> {
     let mut t = tally::nothing();
     t = with_rolls(starred_others(starred(t)));
     t = isolated_joined(isolated_apart(isolated(t)));
     t = isolated_all(isolated_alone_others(isolated_alone(t)));
     t = tallied(t, has_groups(nine_sites(), two_groups(31, 32)));
     t = false_others(false_plans(t));
-    tally::print(b"known plans", t);
+    tally::print(&rt, "known plans", t)
 }

@@ -1,6 +1,7 @@
 // Moves share between the depots of a set, along residual arcs, until no depot above its target can pass share on to one below.
 // The arrays are those of residual.
 #![tactic(auto)]
+
 ghost use Rattle.std.specs.Prelude.{◌≡◌, ◌-◌, ◌<◌, length};
 ghost use Rattle.residual.specs.Rounds.{Excess, Depots, Tested, Found, AllDischarged, Seeded, Start, Relaxed};
 ghost use Rattle.residual.specs.Moves.{Loaded, Ranked, Discharged};

@@ -1,6 +1,7 @@
 // One site laid on one of its depots: its shares stored, and the depots' loads raised.
 // Site i is at the places i and 512 + i of `share`, for its first and its second depot.
 #![tactic(auto)]
+
 ghost use Rattle.std.specs.Prelude.{◌≡◌, ◌+◌, ◌-◌, ◌<◌, ◌^◌, length, set};
 ghost use Rattle.sets.specs.Sum.{when};
 ghost use Rattle.residual.specs.Array.{total_load};

@@ -1,5 +1,6 @@
 // The scaled loads of the depots.
 #![tactic(auto)]
+
 ghost use Rattle.std.specs.Prelude.{ℕ, ◌+◌, ◌<◌, ◌≤◌, ◌^◌, get_or};
 ghost use Rattle.sets.specs.Sum.{sum};
 ghost use Rattle.tables.specs.Tables.{Holds, part_of, Parts};

@@ -1,5 +1,6 @@
 // Lists to test with, and plans that differ a little from a given one.
 #![tactic(auto)]
+
 use density::Site;
 use records::{ListArray, PlanArray, RollArray};
 

@@ -1,6 +1,7 @@
 // Moves share along an arc, from a depot above its target to one that comes earlier in the search order.
 // The arrays are those of residual.
 #![tactic(auto)]
+
 ghost use Rattle.std.specs.Prelude.{◌≡◌, ◌-◌, ◌<◌, min, ltb, length};
 ghost use Rattle.residual.specs.Array.{at};
 ghost use Rattle.residual.specs.Search.{reverse};

@@ -1,5 +1,6 @@
 // The ranks of the depots in the search (see `residual`): all taken out of its order, and those that it did not reach.
 #![tactic(auto)]
+
 ghost use Rattle.std.specs.Prelude.{◌≡◌, max, eqb, length};
 ghost use Rattle.sets.specs.Set.{set_of};
 ghost use Rattle.residual.specs.Array.{at};

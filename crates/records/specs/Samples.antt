@@ -1,6 +1,6 @@
 -- Document 01, "Records and their marks": T and its plan, as bytes; and "Own 0 of 7" of its lists with known plans. Document 02, c: a site of 70,000 litres and its plan, in edition 2; g: a list
 -- with a roll and its plan.
-use Rattle.std.specs.Prelude.{List, [], ◌∷◌, ◌++◌, ℕ, replicate}
+use Rattle.std.specs.Prelude.{List, [], ◌∷◌, ℕ, replicate}
 use Rattle.std.proofs.Math.Option.{none, some}
 use Rattle.density.specs.Network.{Listing}
 use Rattle.records.specs.Values.{Plan}

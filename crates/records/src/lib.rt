@@ -1,5 +1,6 @@
 // Lists and plans as values, and as bytes.
 #![tactic(auto)]
+
 ghost use Rattle.std.specs.Prelude.{◌≡◌};
 ghost use Rattle.std.proofs.Math.Option.{none};
 ghost use Rattle.records.specs.declared.Read.TheVariants.{Refused};

@@ -7,7 +7,7 @@ use native.Mathlib.Omega.{arith}
 use borrow.Author.Tests.{eq-eqb, ne_eqb}
 use lib.Dec.{eqb}
 use lib.ListN.{length}
-use Rattle.sets.specs.Sum.{when, sum}
+use Rattle.sets.specs.Sum.{when}
 use Rattle.residual.specs.Array.{at, total_load, total_deficit, arc_load}
 use Rattle.residual.specs.Search.{reverse}
 use Rattle.residual.specs.Moves.{shift, Loaded, Movable, ArcAt, Moved, PushedFrom, Gained, Admissible}

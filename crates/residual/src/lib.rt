@@ -3,6 +3,7 @@
 // ends[j] is the depot of arc j, or 64 where there is no site; share[j] is what that depot has of the site.
 // rank[d] is the place of depot d in the search order, 64 where it is not reached, 65 where it takes no part.
 #![tactic(auto)]
+
 ghost use Rattle.std.specs.Prelude.{◌≡◌, ◌<◌};
 ghost use Rattle.residual.specs.Search.{reverse, Queue, Enqueued, Residual, Placed, Scanned, Reached};
 

@@ -1,5 +1,6 @@
 // Rows 12 to 16, each a test on values.
 #![tactic(auto)]
+
 ghost use Rattle.std.specs.Prelude.{◌≡◌, true, cond, not, ◌||◌, List, ℕ, ◌*◌, ◌<◌, ◌≤◌, ◌^◌, length, get_or};
 ghost use Rattle.sets.specs.Set.{◌∩◌, has, set_of, is_empty};
 ghost use Rattle.density.specs.Network.{Network};

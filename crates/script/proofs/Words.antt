@@ -142,12 +142,13 @@ decided true false f g = sym (f refl)
 decided false true f g = g refl
 decided false false f g = refl
 
-same-is : (r : Bool) (s t : List ℕ) → (r ≡ true → s ≡ t) × (s ≡ t → r ≡ true) → r ≡ same_of s t
+pub same-is : (r : Bool) (s t : List ℕ) → (r ≡ true → s ≡ t) × (s ≡ t → r ≡ true) → r ≡ same_of s t
 same-is r s t p = decided r (same_of s t) (λ e. ap (same_of s) (sym (p.0 e)) ∙ same_refl s) (λ e. p.1 (same-eq s t e))
 
-module _ {r : Bool} {s t : List ℕ} (p : (r ≡ true → s ≡ t) × (s ≡ t → r ≡ true)) where
-  pub same-yes : r ≡ true → same_of s t ≡ true
-  same-yes e = sym (same-is r s t p) ∙ e
+-- r is what the test t says
+module _ {r t : Bool} (p : r ≡ t) where
+  pub same-yes : r ≡ true → t ≡ true
+  same-yes e = sym p ∙ e
 
-  pub same-no : r ≡ false → same_of s t ≡ false
-  same-no e = sym (same-is r s t p) ∙ e
+  pub same-no : r ≡ false → t ≡ false
+  same-no e = sym p ∙ e

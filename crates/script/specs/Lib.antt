@@ -1,3 +1,4 @@
+pub mod Prefix
 pub mod Hex
 pub mod Decimal
 pub mod Words

@@ -1,10 +1,11 @@
 // Lines of a script: words, bytes in hexadecimal, decimal numbers, and a line put together byte by byte.
 #![tactic(auto)]
+
 ghost use Rattle.std.specs.Prelude.{◌≡◌, cond, ◌≤◌, ◌<◌, ◌+◌, ◌*◌, ◌/◌, min, ltb, length, take, drop, set};
-ghost use Rattle.io.specs.Counts.{IsPrefixLen};
+ghost use Rattle.script.specs.Prefix.{IsPrefixLen};
 ghost use Rattle.script.specs.Hex.{digit_of, glyph_of, digits_of, byte_of, bytes_of, all_digits, is_none, is_bytes};
 ghost use Rattle.script.specs.Decimal.{number_of};
-ghost use Rattle.script.specs.Words.{trimmed_of, letters_of, behind_of, word_of, rest_of};
+ghost use Rattle.script.specs.Words.{trimmed_of, letters_of, behind_of, word_of, rest_of, same_of};
 
 // A number, or none that fits its place.
 #[derive(Clone, Copy)]
@@ -101,6 +102,13 @@ pub fn rest(s: &[u8]) -> &[u8]
     let t = trimmed(s);
     let n = letters(t);
     &t[n..]
+}
+
+// Are the bytes the same?
+pub fn same(a: &[u8], b: &[u8]) -> bool
+    ensures { result ≡ same_of a.now b.now }
+{
+    a == b
 }
 
 // Are all bytes hexadecimal digits?

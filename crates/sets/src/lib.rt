@@ -1,6 +1,7 @@
 // Sets of depots, 0 to 63, as numbers: bit n, worth 2 to the n, stands for depot n.
 // `specs/Set.antt` says what each function means; `proofs/` has the laws.
 #![tactic(auto)]
+
 ghost use Rattle.std.specs.Prelude.{◌≡◌, true, ℕ, ◌<◌, ◌≤◌, length, get_or};
 ghost use Rattle.sets.specs.Set.{only, ◌∪◌, ◌∩◌, ◌∖◌, has, set_of, is_empty, weigh, cardinality, lowest};
 

@@ -9,7 +9,7 @@ use mir.Val.{SFits, to_z, of_z}
 use mir.Facts.{to_z_pos, to_z-of_z}
 
 pub read_back : {z : ℤ} → mag z < 2 ^ 63 → to_z w64 (of_z w64 z) ≡ z
-read_back l = to_z-of_z (record { sfits = l })
+read_back l = to_z-of_z {w = w64} (record { sfits = l })
 
 fits : (n : ℕ) → n < 2 ^ 63 → SFits w64 (neg_ℤ (pos n))
 fits zero l = record { sfits = l }

@@ -1,5 +1,6 @@
 // Lengths and rows as the signed numbers that C functions answer.
 #![tactic(auto)]
+
 ghost use Rattle.std.specs.Prelude.{◌≡◌, ◌<◌, ◌^◌, pos, neg_ℤ};
 
 // A length, as a signed number.

@@ -1,7 +1,7 @@
 -- The arrays among the locals of a function's code, which its proof lists (`arrays-are`). No promise rests on the list: it guards the form of a body, of whose arrays its contract says nothing. Assumes nothing.
 use mathlib.Core.List.{List, [], ◌∷◌, ◌++◌, map}
 use Prim.Native.Nat.{ℕ}
-use mir.Syntax.{Ty, ty_int, ty_bool, ty_float, ty_ptr, ty_ref, ty_array, ty_unit, ty_struct, ty_enum, ty_named, Tys, tnil, tcons, Tyss, ttnil, ttcons, Home, value_local, memory_slot, Local, local, Fn}
+use mir.Syntax.{Ty, ty_int, ty_bool, ty_float, ty_ptr, ty_ref, ty_array, ty_unit, ty_param, ty_const, ty_array_p, ty_struct, ty_enum, ty_named, Tys, tnil, tcons, Tyss, ttnil, ttcons, Home, value_local, memory_slot, Local, local, Fn}
 use prog.Memory.{size}
 
 -- an array: whether it lies in memory or passes by value, how many places it has, how many bytes a place takes
@@ -28,7 +28,10 @@ abbrev mutual
   arrays_in ty_unit = []
   arrays_in (ty_struct ν τs) = arrays_of τs
   arrays_in (ty_enum ν τss) = arrays_of_each τss
-  arrays_in (ty_named ν) = []
+  arrays_in (ty_param ι) = []
+  arrays_in (ty_const ι) = []
+  arrays_in (ty_array_p τ ι) = []
+  arrays_in (ty_named ν τs) = []
 
   arrays_of : Tys → List (ℕ × ℕ)
   arrays_of tnil = []

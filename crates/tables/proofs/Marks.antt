@@ -3,17 +3,14 @@ use mathlib.Core.Path.{◌≡◌, sym, ap, ◌∙◌}
 use mathlib.Core.Logic.{⊎_elim}
 use mathlib.Core.Bool.{Bool, true, false, cond, not, ◌&&◌, and-true}
 use mathlib.Core.List.{List}
-use Prim.Native.Nat.{ℕ, suc, ◌+◌, ◌-◌, ◌≤◌, ◌<◌, ◌^◌, suc-le-suc, zero-le}
+use Prim.Native.Nat.{ℕ, suc, ◌+◌, ◌-◌, ◌≤◌, ◌<◌, ◌^◌}
 use native.Mathlib.Omega.{arith}
-use lib.Dec.{T, eqb, eqb→eq, eqb_refl, T_not, not_T}
+use lib.Dec.{eqb, eqb→eq, eqb_refl, T_not, not_T}
 use lib.ListN.{length, get_or, set, drop}
 use lib.Seq.{drop-cons, drop-length, get_or-set_same, get_or-set_other}
-use Rattle.sets.specs.Sum.{any}
-use Rattle.sets.specs.Set.{only, ◌∖◌, has, set_of, is_empty, cardinality, lowest}
-use Rattle.sets.proofs.Test.{T?, and_l, and_r, is_false, passes, fails, eq→eqb, cond-on, cond-off}
-use Rattle.sets.proofs.Sum.{any_at}
-use Rattle.sets.proofs.Member.{member-lt}
-use Rattle.sets.proofs.Set.{empty→, has-without, has-single}
+use Rattle.sets.specs.Set.{has, is_empty, lowest}
+use Rattle.sets.proofs.Test.{T?, and_r, is_false, fails, eq→eqb, cond-on, cond-off}
+use Rattle.sets.proofs.Set.{empty→}
 use Rattle.sets.proofs.Rest.{rest, lowest-lt, in_left, rest-is}
 use Rattle.density.specs.Plan.{place}
 

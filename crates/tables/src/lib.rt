@@ -1,5 +1,6 @@
 // What rows 12 to 16 are tried on: the listed depots, the crews and the place of each depot, and q and W of each group.
 #![tactic(auto)]
+
 ghost use Rattle.std.specs.Prelude.{◌≡◌, false, cond, ◌<◌, ◌≤◌, ◌^◌, max, T, length, get_or};
 ghost use Rattle.sets.specs.Set.{◌∪◌, has, set_of};
 ghost use Rattle.density.specs.Network.{Listing, names, crews_of, enrolled, network, crews_above, in_range};

@@ -1,6 +1,7 @@
 // How many answers of a test program were asked for, and how many were right.
 #![tactic(auto)]
-use libc::STDOUT_FILENO;
+
+use std::io;
 
 #[derive(Clone, Copy)]
 pub struct Tally {
@@ -13,11 +14,11 @@ pub fn nothing() -> Tally {
 }
 
 pub fn tallied(t: Tally, ok: bool) -> Tally {
-    let asked = std::num::wrapping_add_u64(t.asked, 1);
+    let asked = t.asked.wrapping_add(1);
     if ok {
         return Tally {
             asked,
-            right: std::num::wrapping_add_u64(t.right, 1),
+            right: t.right.wrapping_add(1),
         };
     }
     Tally {
@@ -27,11 +28,7 @@ pub fn tallied(t: Tally, ok: bool) -> Tally {
 }
 
 // Prints `NAME: 3 of 4 right`.
-pub fn print(name: &[u8], t: Tally) {
-    io::write_all(STDOUT_FILENO, name);
-    io::write_all(STDOUT_FILENO, b": ");
-    io::print_decimal(STDOUT_FILENO, t.right);
-    io::write_all(STDOUT_FILENO, b" of ");
-    io::print_decimal(STDOUT_FILENO, t.asked);
-    io::write_all(STDOUT_FILENO, b" right\n");
+pub fn print(rt: &impl Print, name: &str, t: Tally) -> io::Result<()> {
+    let Tally { asked, right } = t;
+    println!(rt; "{name}: {right} of {asked} right")
 }

@@ -1,5 +1,6 @@
 // The writers of a list and of a plan.
 #![tactic(auto)]
+
 ghost use Rattle.std.specs.Prelude.{◌≡◌, ◌≤◌, ◌+◌, length, take};
 ghost use Rattle.records.specs.declared.Edition.{Edition};
 ghost use Rattle.records.specs.Values.{roll_in, listing, plan_in};
@@ -13,7 +14,7 @@ use writers_numbers::{crews, number_at, records, sites};
 // Writes a plan of some groups and shares at the front of `out`; the shares go into what remains of it behind the groups.
 pub fn plan_of(e: Edition, groups: &[u64], shares: &[u64], out: &mut [u8]) -> Wrote
     requires { (e.share ≤ 8) × (length groups.now ≤ 64) × (length shares.now ≤ 512) }
-    ensures { Written (plan_bytes e (record { groups = groups.entry.now; shares = shares.now })) out.old result out.new }
+    ensures { Written (plan_bytes e (record { groups = groups.now; shares = shares.now })) out.old result out.new }
 {
     let g = groups.len();
     let n = shares.len();

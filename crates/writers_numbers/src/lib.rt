@@ -1,5 +1,6 @@
 // The writers of numbers and of records: of a mark and a number, and of sites, one or one after another.
 #![tactic(auto)]
+
 ghost use Rattle.std.specs.Prelude.{◌≡◌, ℕ, ◌≤◌, ◌+◌, ◌*◌, length, take};
 ghost use mathlib.Core.List.{◌++◌, flat_map};
 ghost use Rattle.records.specs.Bytes.{le};

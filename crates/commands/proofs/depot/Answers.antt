@@ -1,0 +1,20 @@
+-- `commands::depot` meets its contract.
+-- Assumes nothing.
+use native.Mathlib.Omega.{arith}
+use Rattle.commands.proofs.Reading.{number_is, number-within}
+use Rattle.commands.specs.declared.Command.TheVariants.{Call}
+use Rattle.store.specs.declared.Request.TheVariants as request
+use Rattle.commands.proofs.depot.Goals as goal
+
+pub overflow_cast-result : goal.overflow_cast-result
+overflow_cast-result c =
+    let low = number-within _ c.in-Value.d c.args.text.now c.in-Value.is c.decimal.ensures in
+    record { fits = omega arith }
+
+pub returns-in-Value : goal.returns-in-Value
+returns-in-Value c =
+    number_is (λ d. Call (request.Depot d)) c.in-Value.is c.decimal.ensures
+
+pub returns-in-Bad : goal.returns-in-Bad
+returns-in-Bad c =
+    number_is (λ d. Call (request.Depot d)) c.in-Bad.is c.decimal.ensures

@@ -1,0 +1,12 @@
+-- `commands::migrate` meets its contract.
+-- Assumes nothing.
+use Rattle.commands.proofs.Reading.{number_is}
+use Rattle.commands.specs.declared.Command.TheVariants.{Migrate}
+use Rattle.commands.proofs.migrate.Goals as goal
+
+pub returns-in-Value : goal.returns-in-Value
+returns-in-Value c =
+    number_is (λ n. Migrate n) c.in-Value.is c.decimal.ensures
+
+pub returns-in-Bad : goal.returns-in-Bad
+returns-in-Bad c = number_is (λ n. Migrate n) c.in-Bad.is c.decimal.ensures

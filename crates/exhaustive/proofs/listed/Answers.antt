@@ -1,0 +1,27 @@
+-- `exhaustive::listed` is safe and ends: the loop's counter is at most 16.
+use Rattle.std.proofs.Common.{arith}
+use Rattle.exhaustive.proofs.listed.Goals as goal
+
+pub loop-i-init : goal.loop-i-init
+loop-i-init c = omega arith
+
+pub offset_bounds-sites-i : goal.offset_bounds-sites-i
+offset_bounds-sites-i c = omega arith
+
+pub bounds-sites-i : goal.bounds-sites-i
+bounds-sites-i c = omega arith
+
+pub depots-set-requires : goal.depots-set-requires
+depots-set-requires c = tt
+
+pub overflow_step-i : goal.overflow_step-i
+overflow_step-i c = omega arith
+
+pub loop-i-smaller : goal.loop-i-smaller
+loop-i-smaller c = omega arith
+
+pub loop-i-preserved : goal.loop-i-preserved
+loop-i-preserved c = omega arith
+
+pub returns : goal.returns
+returns c = tt

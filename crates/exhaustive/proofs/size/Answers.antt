@@ -1,0 +1,33 @@
+-- `exhaustive::size` is safe and ends: the loop's counter is at most 12.
+use Rattle.std.proofs.Common.{arith}
+use Rattle.exhaustive.proofs.size.Goals as goal
+
+pub loop-d-init : goal.loop-d-init
+loop-d-init c = omega arith
+
+pub overflow_cast-d : goal.overflow_cast-d
+overflow_cast-d c = omega arith
+
+pub single-requires : goal.single-requires
+single-requires c = tt
+
+pub offset_bounds-crews-d : goal.offset_bounds-crews-d
+offset_bounds-crews-d c = omega arith
+
+pub bounds-crews-d : goal.bounds-crews-d
+bounds-crews-d c = omega arith
+
+pub sum-n-requires : goal.sum-n-requires
+sum-n-requires c = tt
+
+pub overflow_step-d : goal.overflow_step-d
+overflow_step-d c = omega arith
+
+pub loop-d-smaller : goal.loop-d-smaller
+loop-d-smaller c = omega arith
+
+pub loop-d-preserved : goal.loop-d-preserved
+loop-d-preserved c = omega arith
+
+pub returns : goal.returns
+returns c = tt

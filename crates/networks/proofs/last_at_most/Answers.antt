@@ -1,0 +1,24 @@
+-- `networks::last_at_most` is safe and ends: the loop's counter is at most 32.
+use Rattle.std.proofs.Common.{arith}
+use Rattle.networks.proofs.last_at_most.Goals as goal
+
+pub loop-k-init : goal.loop-k-init
+loop-k-init c = omega arith
+
+pub offset_bounds-counts-k : goal.offset_bounds-counts-k
+offset_bounds-counts-k c = omega arith
+
+pub bounds-counts-k : goal.bounds-counts-k
+bounds-counts-k c = omega arith
+
+pub overflow_step-k : goal.overflow_step-k
+overflow_step-k c = omega arith
+
+pub loop-k-smaller : goal.loop-k-smaller
+loop-k-smaller c = omega arith
+
+pub loop-k-preserved : goal.loop-k-preserved
+loop-k-preserved c = omega arith
+
+pub returns : goal.returns
+returns c = tt
