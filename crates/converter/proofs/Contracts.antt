@@ -10,7 +10,7 @@ use contract.Lifetimes.{Lfts}
 use contract.Notation.{connectives}
 use types.Logic.{Logic}
 use base.Logic.{SProp}
-use denote.Ref.{Bor}
+use denote.Ref.{Bor, MutBor}
 use Rattle.records.specs.declared.Wrote.{Wrote}
 use Rattle.records.specs.declared.WroteBoth.{WroteBoth}
 use Rattle.records.specs.Write.{WrittenOf}
@@ -24,23 +24,23 @@ use Rattle.converter.specs.contracts.downgrade_plan as of-downgrade-plan
 module _ {M : Type 1} {𝓤 : Ura M} (𝓛 : Logic 𝓤) (mem : Memory → SProp 𝓤) (run : Routine → Fun 𝓤) where
   open connectives 𝓤 use {⌜◌⌝, ⊤ₛ}
 
-  module _ (κs : Lfts 2) (list out : Bor (List ℕ)) where
-    upgrade-list-says : (r : Wrote) (list' out' : Bor (List ℕ))
+  module _ (κs : Lfts 2) (list : Bor (List ℕ)) (out : MutBor (List ℕ)) where
+    upgrade-list-says : (r : Wrote) (list' : Bor (List ℕ)) (out' : MutBor (List ℕ))
         → (of-upgrade-list.clauses 𝓛 mem run κs (list, (out, tt))).ensures tt r (list', (out', tt)) ≡ ⌜ WrittenOf (convert_list upgrade list.now out.now) out.now r out'.now ⌝
     upgrade-list-says r list' out' = refl
 
     upgrade-list-asks : (of-upgrade-list.clauses 𝓛 mem run κs (list, (out, tt))).requires tt ≡ ⊤ₛ
     upgrade-list-asks = refl
 
-    downgrade-list-says : (r : Wrote) (list' out' : Bor (List ℕ))
+    downgrade-list-says : (r : Wrote) (list' : Bor (List ℕ)) (out' : MutBor (List ℕ))
         → (of-downgrade-list.clauses 𝓛 mem run κs (list, (out, tt))).ensures tt r (list', (out', tt)) ≡ ⌜ WrittenOf (convert_list downgrade list.now out.now) out.now r out'.now ⌝
     downgrade-list-says r list' out' = refl
 
     downgrade-list-asks : (of-downgrade-list.clauses 𝓛 mem run κs (list, (out, tt))).requires tt ≡ ⊤ₛ
     downgrade-list-asks = refl
 
-  module _ (κs : Lfts 4) (list plan out other : Bor (List ℕ)) where
-    upgrade-plan-says : (r : WroteBoth) (list' plan' out' other' : Bor (List ℕ))
+  module _ (κs : Lfts 4) (list plan : Bor (List ℕ)) (out other : MutBor (List ℕ)) where
+    upgrade-plan-says : (r : WroteBoth) (list' plan' : Bor (List ℕ)) (out' other' : MutBor (List ℕ))
         → (of-upgrade-plan.clauses 𝓛 mem run κs (list, (plan, (out, (other, tt))))).ensures tt r (list', (plan', (out', (other', tt))))
         ≡ ⌜ WrittenBoth (convert_plan upgrade list.now plan.now out.now other.now) out.now other.now r out'.now other'.now ⌝
     upgrade-plan-says r list' plan' out' other' = refl
@@ -48,7 +48,7 @@ module _ {M : Type 1} {𝓤 : Ura M} (𝓛 : Logic 𝓤) (mem : Memory → SProp
     upgrade-plan-asks : (of-upgrade-plan.clauses 𝓛 mem run κs (list, (plan, (out, (other, tt))))).requires tt ≡ ⊤ₛ
     upgrade-plan-asks = refl
 
-    downgrade-plan-says : (r : WroteBoth) (list' plan' out' other' : Bor (List ℕ))
+    downgrade-plan-says : (r : WroteBoth) (list' plan' : Bor (List ℕ)) (out' other' : MutBor (List ℕ))
         → (of-downgrade-plan.clauses 𝓛 mem run κs (list, (plan, (out, (other, tt))))).ensures tt r (list', (plan', (out', (other', tt))))
         ≡ ⌜ WrittenBoth (convert_plan downgrade list.now plan.now out.now other.now) out.now other.now r out'.now other'.now ⌝
     downgrade-plan-says r list' plan' out' other' = refl

@@ -1,5 +1,6 @@
 // Lists and plans between editions: up from edition 1 to edition 2, and back where every figure fits.
 #![tactic(auto)]
+
 ghost use Rattle.std.specs.Prelude.{◌≡◌, ◌≤◌};
 ghost use Rattle.records.specs.Values.{listing};
 ghost use Rattle.records.specs.Answer.{list_read};

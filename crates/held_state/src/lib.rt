@@ -1,5 +1,6 @@
 // What a store holds: its state, row 0, and the figures of a held plan.
 #![tactic(auto)]
+
 ghost use Rattle.std.specs.Prelude.{◌≡◌, List, ℕ, ◌*◌, ◌^◌, ◌<◌, ◌≤◌, T, ltb, pos, ◌-ℤ◌, length, get_or};
 ghost use Rattle.sets.specs.Set.{has, set_of};
 ghost use Rattle.sets.specs.Sum.{any};

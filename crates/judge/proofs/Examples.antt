@@ -42,7 +42,7 @@ starred-passes k l = (passes edition1 computed.0, passes edition2 computed.1)
     passes e t = is_none→ _ (all-at (λ k. is_none (starred_row e k)) (length starred) t k l)
 
 -- "No sites: no groups; plan 50 4C 00 00 00 passes."
-pub no-sites-passes : checked_row (0x4C ∷ 0x53 ∷ 0 ∷ 0 ∷ []) (0x50 ∷ 0x4C ∷ 0 ∷ 0 ∷ 0 ∷ []) ≡ none
+pub no-sites-passes : checked_row (0x4_c ∷ 0x53 ∷ 0 ∷ 0 ∷ []) (0x50 ∷ 0x4_c ∷ 0 ∷ 0 ∷ 0 ∷ []) ≡ none
 unfolding check_row read_list read_plan value records sum all any has weigh size network crews_above sites_uncrewed first_row plan_rows groups_meet groups_unlisted shares_broken share_broken loads_uneven scaled_load share_of target groups_rise place union carrier group_size group_litres whole first_share second_share
 no-sites-passes = refl
 
@@ -79,7 +79,7 @@ pub Opened-passes : checked_row list_opened (plan_of2 (3 ∷ 12 ∷ []) (share2 
 unfolding check_row read_list read_plan value records sum all any has weigh size network crews_above sites_uncrewed first_row plan_rows groups_meet groups_unlisted shares_broken share_broken loads_uneven scaled_load share_of target groups_rise place union carrier group_size group_litres whole first_share second_share
 Opened-passes = refl
 
-pub no-sites-pass : checked_row (0x4C ∷ 0x32 ∷ 0x00 ∷ 0x00 ∷ 0x44 ∷ 0x52 ∷ crews_of_four) (0x50 ∷ 0x32 ∷ 0x01 ∷ 0x00 ∷ 0x00 ∷ group 15 []) ≡ none
+pub no-sites-pass : checked_row (0x4_c ∷ 0x32 ∷ 0x00 ∷ 0x00 ∷ 0x44 ∷ 0x52 ∷ crews_of_four) (0x50 ∷ 0x32 ∷ 0x01 ∷ 0x00 ∷ 0x00 ∷ group 15 []) ≡ none
 unfolding check_row read_list read_plan value records sum all any has weigh size network crews_above sites_uncrewed first_row plan_rows groups_meet groups_unlisted shares_broken share_broken loads_uneven scaled_load share_of target groups_rise place union carrier group_size group_litres whole first_share second_share
 no-sites-pass = refl
 

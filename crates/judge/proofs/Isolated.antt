@@ -4,7 +4,7 @@ use mathlib.Core.List.{List}
 use mathlib.Core.Option.{none}
 use Prim.Native.Nat.{ℕ, ◌<◌}
 use lib.ListN.{length}
-use Rattle.density.specs.Network.{Listing, Network, no_site, site_at, network, base_network}
+use Rattle.density.specs.Network.{Listing, Network, no_site, network, base_network}
 use Rattle.density.specs.Groups.{Decomposition}
 use Rattle.density.specs.Isolated.{IsolatedLast}
 use Rattle.density.specs.Rows.{plan_rows}

@@ -1,5 +1,6 @@
 // Check: a plan, as bytes, judged against a list.
 #![tactic(auto)]
+
 ghost use Rattle.std.specs.Prelude.{◌≡◌, ◌≤◌, T};
 ghost use Rattle.density.specs.Network.{in_range};
 ghost use Rattle.records.specs.Answer.{plan_read};

@@ -24,11 +24,11 @@ short [] b h = omega arith
 short (x ∷ []) b h = omega (arith, b 0)
 short (x ∷ y ∷ s) b h = absurd (omega arith)
 
-pub second-mark : (s : List ℕ) {x : ℕ} → field s 0 2 ≡ x → x ≡ 0x324C → edition2 ≡ edition_of s
-second-mark s e h = sym (ap (λ (z : Bool). cond z edition2 edition1) (eq-eqb (field s 0 2) 0x324C (omega (arith, e, h))))
+pub second-mark : (s : List ℕ) {x : ℕ} → field s 0 2 ≡ x → x ≡ 0x324_c → edition2 ≡ edition_of s
+second-mark s e h = sym (ap (λ (z : Bool). cond z edition2 edition1) (eq-eqb (field s 0 2) 0x324_c (omega (arith, e, h))))
 
-pub other-mark : (s : List ℕ) {x : ℕ} → field s 0 2 ≡ x → (x ≡ 0x324C → ⊥) → edition1 ≡ edition_of s
-other-mark s e h = sym (ap (λ (z : Bool). cond z edition2 edition1) (ne_eqb (field s 0 2) 0x324C (λ k. h (omega (arith, e, k)))))
+pub other-mark : (s : List ℕ) {x : ℕ} → field s 0 2 ≡ x → (x ≡ 0x324_c → ⊥) → edition1 ≡ edition_of s
+other-mark s e h = sym (ap (λ (z : Bool). cond z edition2 edition1) (ne_eqb (field s 0 2) 0x324_c (λ k. h (omega (arith, e, k)))))
 
 -- a list that reads in an edition names it
 pub names1 : (s : List ℕ) {l : Listing} → read_list edition1 512 s ≡ passed l → edition_of s ≡ edition1
@@ -42,7 +42,7 @@ no-mark s b h = let k = short s b h in other-mark s refl (λ e. omega (arith, k)
 
 -- what holds of both editions holds of the one named
 pub either : (P : Edition → Type 0) → P edition1 → P edition2 → (s : List ℕ) → P (edition_of s)
-either P p q s = by (eqb (field s 0 2) 0x324C)
+either P p q s = by (eqb (field s 0 2) 0x324_c)
   where
     by : (z : Bool) → P (cond z edition2 edition1)
     by true = q

@@ -24,7 +24,7 @@ use Rattle.held_state.proofs.Intact.{sized, intact→}
 use Rattle.store.specs.declared.Request.{Request}
 use Rattle.store.specs.declared.Request.TheVariants.{Load, Change, Add, Propose, Share, Depot, Difference, Written, AtLeast, ListWritten}
 use Rattle.store.specs.Calls.{Call, migrate, Reply, Told, same, refused, done, shared, loaded, differ, reached}
-use Rattle.store.specs.Model.{Model, held, count, rows_of}
+use Rattle.store.specs.Model.{Model, held, rows_of}
 use Rattle.store.specs.State.{model_of, effect_of, settle, step}
 use Rattle.store.specs.Trace.{Goes, Figure, Migrates}
 use Rattle.store.proofs.Steps.{row-zero-off}

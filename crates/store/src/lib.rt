@@ -1,5 +1,6 @@
 // The desk of document 01 (here: store): what each call does, over a table of sites that the caller lends.
 #![tactic(auto)]
+
 use density::Site;
 use held_state::Store;
 

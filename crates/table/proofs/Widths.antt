@@ -18,7 +18,7 @@ use Rattle.table.specs.Widths.{no_site1, widened, narrowed, LitresFit}
 use Rattle.table.proofs.Overlay.{blank-is, blank-length, overlay-none, overlay-next, overlay-all}
 use Rattle.table.specs.contracts.Site1 as T
 use Rattle.table.proofs.Site1.TheLaws as T'
-use Rattle.table.proofs.Sites1.{S}
+use denote.RattleType.{RattleType}
 
 pub all-narrowed-widened : (l : List Site1) → map narrowed (map widened l) ≡ l
 all-narrowed-widened [] = refl
@@ -62,8 +62,12 @@ module _ {X Y : Type 0} {f : X → Y} {y : Y} {l : List X} where
   pub mapped-ends : {a : List Y} {i : ℕ} → Mapped f y l a i → 512 ≤ i → a ≡ map f l
   mapped-ends {i = i} m h = m.is ∙ overlay-all (map f l) (blank y) i (omega (arith, h, m.long, length-map l f)) (omega (arith, h, blank-length y))
 
+-- a site of edition 1 as a type of the logic
+abbrev S : RattleType
+S = T.the_row
+
 -- the litres of sites of edition 1 fit by their type
-each_fits : (l : List Site1) (us : List Val) → shadow (each Site1 S.own l us) → (i : ℕ) → i < length l → (get_or l i no_site1).litres < 2 ^ 16
+each_fits : (l : List Site1) (us : List Val) → shadow (each Site1 S.own_val l us) → (i : ℕ) → i < length l → (get_or l i no_site1).litres < 2 ^ 16
 each_fits [] us is i h = absurd (not-suc-le-zero h)
 each_fits (s ∷ l) [] is i h = absurd is
 each_fits (s ∷ l) (u ∷ us) is zero h = (LL.owed T.the_type T'.the_laws s _ is.0).1.1.0.1

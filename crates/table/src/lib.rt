@@ -1,6 +1,7 @@
 // A table of sites that the caller lends: thin functions over it, and a copy of it by value.
 // A lent table has its edition's widths by type: that of edition 1 has sites with two-byte litres, that of edition 2 (`wide`) sites as the definition has them.
 #![tactic(auto)]
+
 ghost use Rattle.std.specs.Prelude.{◌≡◌, map, ◌<◌, ◌≤◌, min, length, get_or, set};
 ghost use Rattle.table.specs.Table.{between, held_of, places_on};
 ghost use Rattle.table.specs.Widths.{no_site1, widened, LitresFit};

@@ -1,5 +1,6 @@
 // Rows 12 to 16: a plan, as a value, checked against a list.
 #![tactic(auto)]
+
 ghost use Rattle.std.specs.Prelude.{◌≡◌, length};
 ghost use Rattle.sets.specs.Set.{set_of};
 ghost use Rattle.density.specs.Rows.{first_row, plan_rows};

@@ -4,7 +4,6 @@ use native.Mathlib.Omega.{arith}
 use Rattle.sets.specs.Set.{set_of}
 use Rattle.sets.proofs.Set.{set_of-start}
 use Rattle.ranks.proofs.Gathering.{gather-takes, gather-skips}
-use Rattle.ranks.proofs.unreached.Goals.{then-place-eq64, else-place-eq64}
 use Rattle.ranks.proofs.unreached.Goals as goal
 
 pub loop-d-init : goal.loop-d-init
@@ -29,17 +28,7 @@ pub loop-d-smaller : goal.loop-d-smaller
 loop-d-smaller c = omega arith
 
 pub loop-d-preserved : goal.loop-d-preserved
-loop-d-preserved c =
-    let rank = c.args.rank.now in
-    let d = c.loop-d.d in
-    let i = c.loop-d.invariant in
-    let h = c.loop-d-test.true in (
-      elim c.if-place-eq64.branch [
-        | then-place-eq64 w ↦ gather-takes rank d i.0 h w.if-place-eq64.true w.with-set.ensures w.set-is
-        | else-place-eq64 w ↦ gather-skips rank d i.0 w.if-place-eq64.false w.set-is
-      ],
-      omega arith,
-    )
+loop-d-preserved c = (grind (arith, gather-takes, gather-skips), omega arith)
 
 pub returns : goal.returns
 returns c = let i = c.loop-d.invariant in i.0 ∙ ap (set_of _) (let e : c.loop-d.d ≡ 64 = omega (arith, i.1, c.loop-d-test.false) in e)

@@ -41,13 +41,13 @@ abbrev start1 : After-number_at → Start
 start1 c = start0 (sized c)
 
 abbrev mark-put : After-number_at-2 → After-number_at
-mark-put c = let known = (goal.at.After-number_at-2 c).After-slice_known-2-1 in (goal.at.After-slice_known-2-1 known).After-number_at
+mark-put c = (goal.at.After-number_at-2 c).After-number_at
 
 abbrev start2 : After-number_at-2 → Start
 start2 c = start1 (mark-put c)
 
 abbrev count-put : After-sites → After-number_at-2
-count-put c = let known = (goal.at.After-sites c).After-slice_known-3-1 in (goal.at.After-slice_known-3-1 known).After-number_at-2
+count-put c = (goal.at.After-sites c).After-number_at-2
 
 abbrev start3 : After-sites → Start
 start3 c = start2 (count-put c)
@@ -84,7 +84,7 @@ front3 c =
 
 -- the room for the whole, and behind the sites for the roll
 roomy : (c : After-sites) → list_size (start3 c).args.e (start3 c).args.n + (sized (mark-put (count-put c))).roll_size.result ≤ length (start3 c).args.out.now
-roomy c = (mark-put (count-put c)).if-out-total.false
+roomy c = omega (arith, c.if-out-total.false)
 
 roll-sized : (c : After-sites) → length (roll_bytes (start3 c).args.e (given (start3 c)).roll) ≡ (sized (mark-put (count-put c))).roll_size.result
 roll-sized c = sym ((sized (mark-put (count-put c))).roll_size.ensures.0 (start3 c).args.e)
@@ -115,7 +115,6 @@ roll-requires c = room (goal.at.roll-requires c).After-sites
 pub returns : goal.returns
 returns c =
     let done = (goal.at.returns c).After-roll in
-    let known = (goal.at.After-roll done).After-slice_known-4-1 in
-    let sites-put = (goal.at.After-slice_known-4-1 known).After-sites in
+    let sites-put = (goal.at.After-roll done).After-sites in
     let s = start3 sites-put in
     written (roomy sites-put) (list-front s.args.e (given s) (taken s) (front-next (roll_bytes s.args.e (given s).roll) (roll-sized sites-put) (front3 sites-put) done.roll.ensures))

@@ -32,22 +32,22 @@ filled s = headed s ++ flat_map (mark_bytes s.args.e.mark.group 8) (given s).gro
 
 -- the places on the way to where the call has come to
 abbrev start1 : After-number_at → Start
-start1 c = let sized = (goal.at.After-number_at c).After-slice_known-1 in (goal.at.After-slice_known-1 sized).Start
+start1 c = (goal.at.After-number_at c).Start
 
 abbrev mark-put : After-number_at-2 → After-number_at
-mark-put c = let known = (goal.at.After-number_at-2 c).After-slice_known-2-1 in (goal.at.After-slice_known-2-1 known).After-number_at
+mark-put c = (goal.at.After-number_at-2 c).After-number_at
 
 abbrev start2 : After-number_at-2 → Start
 start2 c = start1 (mark-put c)
 
 abbrev groups-counted : After-number_at-3 → After-number_at-2
-groups-counted c = let known = (goal.at.After-number_at-3 c).After-slice_known-3-1 in (goal.at.After-slice_known-3-1 known).After-number_at-2
+groups-counted c = (goal.at.After-number_at-3 c).After-number_at-2
 
 abbrev start3 : After-number_at-3 → Start
 start3 c = start2 (groups-counted c)
 
 abbrev shares-counted : After-records → After-number_at-3
-shares-counted c = let known = (goal.at.After-records c).After-slice_known-4-1 in (goal.at.After-slice_known-4-1 known).After-number_at-3
+shares-counted c = (goal.at.After-records c).After-number_at-3
 
 abbrev start4 : After-records → Start
 start4 c = start3 (shares-counted c)
@@ -81,15 +81,13 @@ overflow_add-end-2 c = omega (arith, small (goal.at.overflow_add-end-2 c).Start)
 
 pub returns-then-out-end : goal.returns-then-out-end
 returns-then-out-end c =
-    let sized = (goal.at.returns-then-out-end c).After-slice_known-1 in
-    let s = (goal.at.After-slice_known-1 sized).Start in
+    let s = (goal.at.returns-then-out-end c).Start in
     too_short (plan_bytes s.args.e (given s)) _ (length-plan s.args.e (given s)) c.if-out-end.true
 
 pub returns : goal.returns
 returns c =
     let shares = (goal.at.returns c).After-records-2 in
-    let known = (goal.at.After-records-2 shares).After-slice_known-5-1 in
-    let groups = (goal.at.After-slice_known-5-1 known).After-records in
+    let groups = (goal.at.After-records-2 shares).After-records in
     let marked = mark-put (groups-counted (shares-counted groups)) in
     let roomy = (goal.at.After-number_at marked).Else-out-end in
     let s = start4 groups in

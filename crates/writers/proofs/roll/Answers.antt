@@ -43,8 +43,7 @@ crews-requires c =
 pub returns : goal.returns
 returns c =
     let done = (goal.at.returns c).After-crews in
-    let known = (goal.at.After-crews done).After-slice_known-2-1 in
-    let marked = (goal.at.After-slice_known-2-1 known).After-number_at in
+    let marked = (goal.at.After-crews done).After-number_at in
     let there = (goal.at.After-number_at marked).Else-not-k in
     let s = start there in
     let mark = le 2 s.args.e.mark.roll in

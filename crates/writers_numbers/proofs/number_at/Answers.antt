@@ -26,7 +26,5 @@ returns-then-w-eq6 c =
 pub returns : goal.returns
 returns c =
     let called = (goal.at.returns c).After-put in
-    let other = (goal.at.After-put called).Else-w-eq6 in
-    let sized = (goal.at.Else-w-eq6 other).Else-w-eq4 in
-    let s = (goal.at.Else-w-eq4 sized).Start in
+    let s = (goal.at.After-put called).Start in
     rw called.put.ensures (number-part s.args.at s.args.w s.args.x s.args.out.now s.requires)

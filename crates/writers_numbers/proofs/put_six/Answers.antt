@@ -7,7 +7,6 @@ use Rattle.writers_numbers.proofs.put_six.Goals.{After-put_four, After-put_two, 
 pub returns : goal.returns
 returns c =
     let high = (goal.at.returns c).After-put_two in
-    let known = (goal.at.After-put_two high).After-slice_known-2-1 in
-    let low = (goal.at.After-slice_known-2-1 known).After-put_four in
+    let low = (goal.at.After-put_two high).After-put_four in
     let s = (goal.at.After-put_four low).Start in
     by-halves 4 2 s.args.at s.args.x s.args.out.now (omega (arith, s.requires)) low.put_four.ensures high.put_two.ensures

@@ -12,8 +12,7 @@ use Rattle.writers_numbers.proofs.record_at.Goals.{After-number_at, After-number
 pub returns : goal.returns
 returns c =
     let filled = (goal.at.returns c).After-number_at-2 in
-    let known = (goal.at.After-number_at-2 filled).After-slice_known-2-1 in
-    let marked = (goal.at.After-slice_known-2-1 known).After-number_at in
+    let marked = (goal.at.After-number_at-2 filled).After-number_at in
     let s = (goal.at.After-number_at marked).Start in
     let a = s.args in
     filled.number_at-2.ensures

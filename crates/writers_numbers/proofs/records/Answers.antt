@@ -13,15 +13,8 @@ use Rattle.records.proofs.Buffers.{run_step, length-mark}
 use Rattle.writers_numbers.proofs.records.Goals as goal
 use Rattle.writers_numbers.proofs.records.Goals.{After-record_at, After-shared_slice_known-1, After-slice_known-in-loop-i-1, At-loop-i, In-loop-i, Start}
 
--- the places on the way: the start, and the turn's start
-abbrev start : At-loop-i → Start
-start l = (goal.at.At-loop-i l).Start
-
-abbrev turn : After-slice_known-in-loop-i-1 → In-loop-i
-turn c = let put = (goal.at.After-slice_known-in-loop-i-1 c).After-record_at in (goal.at.After-record_at put).In-loop-i
-
-room : (c : In-loop-i) → c.loop-i.at + (2 + (start (goal.at.In-loop-i c).At-loop-i).args.w) ≤ length c.loop-i.out
-room c = omega (arith, mul-room (2 + (start (goal.at.In-loop-i c).At-loop-i).args.w) c.loop-i-test.true)
+room : (c : In-loop-i) → c.loop-i.at + (2 + c.args.w) ≤ length c.loop-i.out
+room c = omega (arith, mul-room (2 + c.args.w) c.loop-i-test.true)
 
 pub loop-i-init : goal.loop-i-init
 unfolding flat_map
@@ -34,10 +27,10 @@ pub record_at-requires : goal.record_at-requires
 record_at-requires c = room (goal.at.record_at-requires c).In-loop-i
 
 pub overflow_add-at : goal.overflow_add-at
-overflow_add-at c = omega (arith, room (turn c))
+overflow_add-at c = omega (arith, room (goal.at.overflow_add-at c).In-loop-i)
 
 pub overflow_add-at-in-loop-i : goal.overflow_add-at-in-loop-i
-overflow_add-at-in-loop-i c = omega (arith, room (turn c))
+overflow_add-at-in-loop-i c = omega (arith, room (goal.at.overflow_add-at-in-loop-i c).In-loop-i)
 
 pub overflow_add-i : goal.overflow_add-i
 overflow_add-i c = omega arith
@@ -47,16 +40,13 @@ loop-i-smaller c = omega arith
 
 pub loop-i-preserved : goal.loop-i-preserved
 loop-i-preserved c =
-    let put = (goal.at.loop-i-preserved c).After-record_at in
-    let tested = (goal.at.After-record_at put).In-loop-i in
-    let l = tested.loop-i in
-    let known = (goal.at.In-loop-i tested).After-shared_slice_known-1 in
-    let a = known.args in
+    let l = c.loop-i in
+    let a = c.args in
     let h : l.i < length a.xs.now = omega arith in (
       omega arith,
       rw (add-one, mul-suc) (omega arith),
-      put.record_at.auto.out ∙ l.invariant.2,
-      put.record_at.ensures ∙ rw (l.invariant.1, l.invariant.3) (run_step (mark_bytes a.mark a.w) (2 + a.w) (length-mark a.mark a.w) a.xs.now a.out.now l.i 0 h),
+      c.record_at.auto.out ∙ l.invariant.2,
+      c.record_at.ensures ∙ rw (l.invariant.1, l.invariant.3) (run_step (mark_bytes a.mark a.w) (2 + a.w) (length-mark a.mark a.w) a.xs.now a.out.now l.i 0 h),
     )
 
 pub shape_of-out : goal.shape_of-out
@@ -65,5 +55,5 @@ shape_of-out c = c.loop-i.invariant.2
 pub returns : goal.returns
 returns c =
     let l = c.loop-i in
-    let e : l.i ≡ length (start (goal.at.returns c).At-loop-i).args.xs.now = omega arith in
+    let e : l.i ≡ length c.args.xs.now = omega arith in
     rw (e, take-length) at l.invariant.3

@@ -16,15 +16,8 @@ use Rattle.writers_numbers.proofs.sites.Goals.{After-site_at, After-slice_known-
 pub overflow_add-size : goal.overflow_add-size
 overflow_add-size c = omega arith
 
--- the places on the way: the start, and the turn's start
-abbrev start : At-loop-i → Start
-start l = (goal.at.At-loop-i l).Start
-
-abbrev turn : After-slice_known-in-loop-i-1 → In-loop-i
-turn c = let put = (goal.at.After-slice_known-in-loop-i-1 c).After-site_at in (goal.at.After-site_at put).In-loop-i
-
-room : (c : In-loop-i) → c.loop-i.at + site_size (start (goal.at.In-loop-i c).At-loop-i).args.e ≤ length c.loop-i.out
-room c = omega (arith, mul-room (site_size (start (goal.at.In-loop-i c).At-loop-i).args.e) c.loop-i-test.true)
+room : (c : In-loop-i) → c.loop-i.at + site_size c.args.e ≤ length c.loop-i.out
+room c = omega (arith, mul-room (site_size c.args.e) c.loop-i-test.true)
 
 pub loop-i-init : goal.loop-i-init
 unfolding flat_map
@@ -40,7 +33,7 @@ pub site_at-requires : goal.site_at-requires
 site_at-requires c = room (goal.at.site_at-requires c).In-loop-i
 
 pub overflow_add-at : goal.overflow_add-at
-overflow_add-at c = omega (arith, room (turn c))
+overflow_add-at c = omega (arith, room (goal.at.overflow_add-at c).In-loop-i)
 
 pub overflow_add-i : goal.overflow_add-i
 overflow_add-i c = omega arith
@@ -50,16 +43,13 @@ loop-i-smaller c = omega arith
 
 pub loop-i-preserved : goal.loop-i-preserved
 loop-i-preserved c =
-    let put = (goal.at.loop-i-preserved c).After-site_at in
-    let tested = (goal.at.After-site_at put).In-loop-i in
-    let l = tested.loop-i in
-    let known = (goal.at.In-loop-i tested).After-struct_known-1 in
-    let a = known.args in
+    let l = c.loop-i in
+    let a = c.args in
     let h : l.i < length a.table = omega arith in (
       omega arith,
       rw (add-one, mul-suc) (omega arith),
-      put.site_at.auto.out ∙ l.invariant.2,
-      put.site_at.ensures ∙ rw (l.invariant.1, l.invariant.3) (run_step (site_bytes a.e) (site_size a.e) (length-site a.e) a.table a.out.now l.i _ h),
+      c.site_at.auto.out ∙ l.invariant.2,
+      c.site_at.ensures ∙ rw (l.invariant.1, l.invariant.3) (run_step (site_bytes a.e) (site_size a.e) (length-site a.e) a.table a.out.now l.i _ h),
     )
 
 pub shape_of-out : goal.shape_of-out
@@ -68,5 +58,5 @@ shape_of-out c = c.loop-i.invariant.2
 pub returns : goal.returns
 returns c =
     let l = c.loop-i in
-    let e : l.i ≡ (start (goal.at.returns c).At-loop-i).args.n = omega arith in
+    let e : l.i ≡ c.args.n = omega arith in
     rw e at l.invariant.3

@@ -1,0 +1,17 @@
+-- `table::wide::held2` meets its contract. Assumes nothing.
+use Rattle.std.proofs.Common.{arith, sym, ◌∙◌}
+use Rattle.table.specs.Table.{blank}
+use Rattle.density.specs.Network.{no_site}
+use Rattle.table.proofs.Overlay.{blank-is, overlay-none}
+use Rattle.table.proofs.Turns.{filled_next}
+use Rattle.table.proofs.wide.held2.Goals as goal
+
+pub loop-i-init : goal.loop-i-init
+loop-i-init c = record { within = omega arith; filled = sym (blank-is no_site) ∙ sym (overlay-none c.args.table.now (blank no_site)) }
+
+pub loop-i-preserved : goal.loop-i-preserved
+loop-i-preserved c =
+    record {
+      within = omega arith;
+      filled = rw c.loop-i.invariant.filled (filled_next no_site c.args.table.now c.loop-i.i c.site_at2.result (omega arith) (omega arith) c.site_at2.ensures);
+    }
