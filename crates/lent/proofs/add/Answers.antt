@@ -88,13 +88,13 @@ passed : (c : In_default) (input buffer : List ℕ)
     × ((state k).store.count < 512)
     × ((state k).store.count < length (state k).table)
 passed c input buffer =
-    let r = c.before.before in
-    let d = r.before.before in
-    let k = d.before in
-    let x = (start k).args.x in
+    let r = (goal.at.In_default c).After-add_row-verdict in
+    let d = (goal.at.After-add_row-verdict r).Else-found in
+    let k = (goal.at.Else-found d).After-row_zero-found in
+    let x = k.args.x in
     let q = asked k input buffer in
     add-passed (state k) q (sound d) x.first x.second x.litres refl
-    (sym (r.add_row.ensures (model_of (state k)) q (counted d) (placed d) (rolled d)) ∙ c.enum_told.given.1)
+    (sym (r.add_row-verdict.ensures (model_of (state k)) q (counted d) (placed d) (rolled d)) ∙ c.in_default.is)
 
 behind : (c : In_default)
     → let k = (goal.at.In_default c).After-row_zero-found in

@@ -3,6 +3,7 @@ use mathlib.Core.Path.{subst}
 use Prim.Native.Nat.{◌^◌}
 use borrow.Author.Rules.{rules}
 use Rattle.store.specs.Widths.{Named}
+use borrow.Enum.Refused.{opened}
 use Rattle.store.proofs.Rules.{others-read}
 use Rattle.lent.proofs.Served.{called-as}
 use Rattle.lent.proofs.call.Goals as goal
@@ -27,7 +28,7 @@ pub look-requires : goal.look-requires
 look-requires c =
     let r = (goal.at.look-requires c).After-shared_slice_known-1 in
     let s = (goal.at.After-shared_slice_known-1 r).Start in
-    (s.requires.0, s.requires.1, others-read s.args.request c.in_default.in_default-own.keys5)
+    (s.requires.0, s.requires.1, others-read s.args.request (opened c.in_default.in_default-own.keys5))
 
 pub returns-in-Load : goal.returns-in-Load
 returns-in-Load c =

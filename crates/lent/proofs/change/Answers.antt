@@ -22,7 +22,7 @@ use Rattle.layout.proofs.Places.{place-room}
 use Rattle.lent.specs.Lent.{state_in}
 use Rattle.lent.proofs.Served.{front-room, at_small, keeps, keeps-bare, puts-site, changed-is, changed-small}
 use Rattle.lent.proofs.change.Goals as goal
-use Rattle.lent.proofs.change.Goals.{After-change_row-verdict, After-put_bare, After-put_site, After-row_zero-found, After-site_in-x, After-struct_known-1, Else-found, In_default, In_default-1, Start}
+use Rattle.lent.proofs.change.Goals.{After-change_row-verdict, After-put_bare, After-put_site, After-row_zero-found, After-site_in-x, After-struct_known-1, Else-found, In_default, In_default, Start}
 
 abbrev start : After-row_zero-found → Start
 start c = let f = (goal.at.After-row_zero-found c).Start in f
@@ -77,12 +77,12 @@ passed : (c : In_default) (input buffer : List ℕ)
     (step (state k) q ≡ next (state k) (bare (state k).store.count (state k).store.roll) (set (state k).table a.i (with_litres (site_at (list_of (state k)) a.i) a.w)) (same q done))
     × (a.i < (state k).store.count)
 passed c input buffer =
-    let r = c.before.before in
-    let k = r.before.before in
-    let a = (start k).args in
+    let r = (goal.at.In_default c).After-change_row-verdict in
+    let k = (goal.at.After-change_row-verdict r).After-row_zero-found in
+    let a = k.args in
     let q = asked k input buffer in
-    change-passed (state k) q (sound r.before) a.i a.w refl
-    (sym (r.change-row.ensures (model_of (state k)) q (counted r.before)) ∙ c.enum_told.given.1)
+    change-passed (state k) q (sound (goal.at.After-change_row-verdict r).Else-found) a.i a.w refl
+    (sym (r.change_row-verdict.ensures (model_of (state k)) q (counted (goal.at.After-change_row-verdict r).Else-found)) ∙ c.in_default.is)
 
 placed : (c : In_default)
     → let a = c.args in
@@ -113,18 +113,18 @@ overflow_mul-at c =
 
 pub site_in-x-requires : goal.site_in-x-requires
 site_in-x-requires c =
-    let t = (goal.at.site_in-x-requires c).In_default-1 in
-    let s = (goal.at.In_default-1 t).Start in
+    let t = (goal.at.site_in-x-requires c).In_default in
+    let s = (goal.at.In_default t).Start in
     (s.requires.0.0, room t)
 
 pub put_site-requires : goal.put_site-requires
-put_site-requires c = let x = (goal.at.put_site-requires c).After-struct_known-1 in room (goal.at.After-struct_known-1 x).In_default-1
+put_site-requires c = let x = (goal.at.put_site-requires c).After-struct_known-1 in room (goal.at.After-struct_known-1 x).In_default
 
 pub put_bare-requires : goal.put_bare-requires
 put_bare-requires c =
     let p = (goal.at.put_bare-requires c).After-put_site in
-    let t = (goal.at.After-put_site p).In_default-1 in
-    let s = (goal.at.In_default-1 t).Start in
+    let t = (goal.at.After-put_site p).In_default in
+    let s = (goal.at.In_default t).Start in
     front-room s.args.e s.args.store.now s.requires.1
 
 pub returns : goal.returns
@@ -132,8 +132,8 @@ returns c = λ input buffer b.
     let p = (goal.at.returns c).After-put_bare in
     let w = (goal.at.After-put_bare p).After-put_site in
     let x = (goal.at.After-put_site w).After-site_in-x in
-    let t = (goal.at.After-site_in-x x).In_default-1 in
-    let k = (goal.at.In_default-1 t).After-row_zero-found in
+    let t = (goal.at.After-site_in-x x).In_default in
+    let k = (goal.at.In_default t).After-row_zero-found in
     let f = (goal.at.After-row_zero-found k).Start in
     let a = k.args in
     let q = asked k input buffer in
@@ -141,7 +141,7 @@ returns c = λ input buffer b.
     let small = changed-small a.e a.store.now a.table.now g.1 (placed t) (λ i. (k.slice_known-2-1.given i).fits) in
     let is = x.site_in-x.ensures in
     let roll = (state k).store.roll in
-    let few = (held-count (state k) (sound (goal.at.In_default-1 t).After-row_zero-found)).0 in
+    let few = (held-count (state k) (sound (goal.at.In_default t).Else-found)).0 in
     let known : Bytes a.store.now = λ i. (k.slice_known-1.given i).fits in
     let put = keeps-bare a.e a.store.now k.requires.1 known few (omega (arith, few, k.row_zero-found.ensures.0)) roll refl (p.put_bare.ensures roll) in
     puts-site a.e a.store.now a.table.now q b known (λ i. (k.slice_known-2-1.given i).fits) k.requires.2

@@ -7,7 +7,7 @@ use Rattle.store.specs.Calls.{Call}
 use Rattle.lent.proofs.Served.{places-fit, keeps, puts-sites}
 use Rattle.lent.proofs.Loaded.{Fills, load-fills, load-keeps}
 use Rattle.lent.proofs.load.Goals as goal
-use Rattle.lent.proofs.load.Goals.{After-list-1, After-put_new, After-put_sites, After-read-read, After-roll-1, After-shared_slice_known-1, After-slice_known-2-1, In-Count-2, Start}
+use Rattle.lent.proofs.load.Goals.{After-list-1, After-put_new, After-put_sites, After-read-read, After-roll-1, After-shared_slice_known-1, After-slice_known-2-1, After-roll-1, Start}
 
 abbrev start : After-read-read → Start
 start c = let z = (goal.at.After-read-read c).After-slice_known-2-1 in (goal.at.After-slice_known-2-1 z).Start
@@ -15,22 +15,18 @@ start c = let z = (goal.at.After-read-read c).After-slice_known-2-1 in (goal.at.
 abbrev asked : After-read-read → List ℕ → Call
 asked c buffer = record { request = request.Load; input = c.args.input.now; buffer = buffer }
 
-fills : (c : In-Count-2) (buffer : List ℕ)
-    → let r = (goal.at.In-Count-2 c).After-read-read in
+fills : (c : After-roll-1) (buffer : List ℕ)
+    → let r = (goal.at.After-roll-1 c).After-read-read in
     let a = r.args in
     Fills a.e a.store.now a.table.now (asked r buffer) c.in-Count.n r.read-read.result.list.sites r.read-read.result.list.roll
 fills c buffer =
-    let r = c.before.before in
-    let a = (start r).args in
-    load-fills a.e a.store.now a.table.now (asked r buffer) refl r.read.ensures c.answer.given.1
-
--- where the list's count was told, from where its roll is taken out
-abbrev told : After-roll-1 → In-Count-2
-told r = r
+    let r = (goal.at.After-roll-1 c).After-read-read in
+    let a = r.args in
+    load-fills a.e a.store.now a.table.now (asked r buffer) refl r.read-read.ensures c.in-Count.is
 
 pub put_sites-requires : goal.put_sites-requires
 put_sites-requires c =
-    let d = c in
+    let d = (goal.at.put_sites-requires c).After-roll-1 in
     let a = d.args in
     let f = fills d a.input.now in
     (f.few, places-fit a.e.litres _ a.table.now f.room)
@@ -49,9 +45,9 @@ returns-in-Count c = λ buffer.
     let r = (goal.at.After-put_sites d).After-roll-1 in
     let k = (goal.at.After-roll-1 r).After-list-1 in
     let a = r.args in
-    let f = fills d buffer in
+    let f = fills (goal.at.returns-in-Count c).After-roll-1 buffer in
     puts-sites a.e a.store.now a.table.now (asked (goal.at.After-roll-1 r).After-read-read buffer) (λ i. (k.shared_slice_known-1.given i).fits) (λ i. (k.slice_known-1.given i).fits)
-    (λ i. (k.slice_known-2-1.given i).fits) tt f.few f.room f.steps b.put_new.ensures b.put_new.auto.1.0 p.put_sites.ensures
+    (λ i. (k.slice_known-2-1.given i).fits) tt f.few f.room f.steps b.put_new.ensures b.put_new.auto.store p.put_sites.ensures
 
 pub returns-in-Refused : goal.returns-in-Refused
 returns-in-Refused c = λ buffer.

@@ -52,7 +52,7 @@ state c = let a = c.args in state_in a.e a.store.now a.table.now
 -- what is read stands for the state
 standing : (c : After-summary-known)
     → let p = c.store_in-h in
-    Stands (state c) c.list_in-list.result c.summary-known.result p.last.1.1.1.0 p.last.1.1.1.1.0
+    Stands (state c) c.list_in-list.result c.summary-known.result p.new.groups p.new.shares
 standing c =
     let a = c.args in
     let k = c.summary-known.ensures in
@@ -108,12 +108,12 @@ holds : (c : In_default) (buffer : List ℕ)
     let a = k.args in
     Holds a.e a.store.now a.table.now (asked k buffer) k.store_in-h.result.count (planned c)
 holds c buffer =
-    let r = c.before.before in
-    let k = summed r.before.before in
+    let r = (goal.at.In_default c).After-plan_for-read in
+    let k = (goal.at.After-plan_for-read r).After-summary-known in
     let a = k.args in
-    let z = sound r.before in
-    proposal-holds a.e a.store.now a.table.now (asked k buffer) refl z (stands-list (standing k) z) r.plan-for.ensures
-    k.store_in-h.ensures.count c.enum_told.given.1
+    let z = sound (goal.at.After-plan_for-read r).Else-is_corrupt in
+    proposal-holds a.e a.store.now a.table.now (asked k buffer) refl z (stands-list (standing k) z) r.plan_for-read.ensures
+    k.store_in-h.ensures.count c.in_default.is
 
 pub slice_bounds-put_plan-end : goal.slice_bounds-put_plan-end
 slice_bounds-put_plan-end c = let p = (goal.at.slice_bounds-put_plan-end c).After-plan-1 in sym (holds (goal.at.After-plan-1 p).In_default []).many

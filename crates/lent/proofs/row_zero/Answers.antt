@@ -26,7 +26,7 @@ state c = let a = c.args in state_in a.e a.store.now a.table.now
 -- what is read stands for the state
 standing : (c : After-summary-known)
     → let p = c.store_in-h in
-    Stands (state c) c.list_in-list.result c.summary-known.result p.last.1.1.1.0 p.last.1.1.1.1.0
+    Stands (state c) c.list_in-list.result c.summary-known.result p.new.groups p.new.shares
 standing c =
     let a = c.args in
     let k = c.summary-known.ensures in
