@@ -36,8 +36,9 @@
 // A line is at most 65,536 bytes long. Of a longer one nothing is carried out, whatever it begins with: it is read to its end and prints one `bad line` there.
 // The last line may lack its newline. An answer is printed as soon as its line is read.
 #![tactic(auto)]
-ghost use Rattle.std.specs.Prelude.{◌≡◌, true, ◌⊎◌, ℕ, ◌+◌, ◌*◌, ◌≤◌, ◌^◌, nat_abs};
-ghost use Rattle.io.specs.Counts.{IsPrefixLen};
+
+ghost use Rattle.std.specs.Prelude.{◌≡◌, true, ◌⊎◌, ℕ, ◌+◌, ◌*◌, ◌≤◌, ◌^◌, nat_abs, IfOk};
+ghost use Rattle.script.specs.Prefix.{IsPrefixLen};
 ghost use Rattle.commands.specs.Commands.{Within};
 ghost use Rattle.store.specs.Widths.{Named};
 ghost use Rattle.layout.specs.Layout.{store_size};
@@ -47,8 +48,9 @@ ghost use Rattle.converter.specs.Convert.{way, convert_list, convert_plan};
 ghost use Rattle.console.specs.Editions.{edition_at, desk_after};
 
 use commands::Command;
-use libc::{STDIN_FILENO, STDOUT_FILENO};
 use records::{Edition, Wrote, WroteBoth, edition1, edition2};
+use std::io;
+use std::io::Read;
 use store::{Answer, Request};
 use tables::Verdict;
 
@@ -62,6 +64,13 @@ struct Desk {
     table: [u8; 3600],
 }
 
+// What a step to edition 2 answers, and the desk behind it.
+#[derive(Clone, Copy)]
+struct Step {
+    answer: Answer,
+    desk: Desk,
+}
+
 // What is kept between reads: whether there may be more to read, how many bytes of the next line are read, and the desk.
 #[derive(Clone, Copy)]
 struct State {
@@ -70,22 +79,16 @@ struct State {
     desk: Desk,
 }
 
-fn print(text: &[u8]) {
-    io::write_all(STDOUT_FILENO, text);
+fn bad(rt: &impl Print) -> io::Result<()> {
+    rt.print("bad line\n")
 }
 
-fn bad() {
-    print(b"bad line\n");
+fn print_number(rt: &impl Print, before: &str, n: u64) -> io::Result<()> {
+    print!(rt; "{before}{n}")
 }
 
-fn print_number(before: &[u8], n: u64) {
-    print(before);
-    io::print_decimal(STDOUT_FILENO, n);
-}
-
-fn print_numbers(before: &[u8], a: u64, b: u64) {
-    print_number(before, a);
-    print_number(b" ", b);
+fn print_numbers(rt: &impl Print, before: &str, a: u64, b: u64) -> io::Result<()> {
+    print!(rt; "{before}{a} {b}")
 }
 
 // How far a number is from 0. The smallest has none above zero of its type, so one is taken off before the sign is.
@@ -98,113 +101,112 @@ fn magnitude(d: i64) -> u64
     d as u64
 }
 
-fn print_refused(row: u8) {
-    print_number(b"refused ", row as u64);
+fn print_refused(rt: &impl Print, row: u8) -> io::Result<()> {
+    print_number(rt, "refused ", row as u64)
 }
 
-fn print_length(n: usize) {
-    print_number(b"length ", n as u64);
+fn print_length(rt: &impl Print, n: usize) -> io::Result<()> {
+    print_number(rt, "length ", n as u64)
 }
 
-fn print_difference(d: i64, q: u64) {
+fn print_difference(rt: &impl Print, d: i64, q: u64) -> io::Result<()> {
     if d < 0 {
-        print_numbers(b"difference -", magnitude(d), q);
+        print_numbers(rt, "difference -", magnitude(d), q)
     } else {
-        print_numbers(b"difference ", magnitude(d), q);
+        print_numbers(rt, "difference ", magnitude(d), q)
     }
 }
 
 // A set of depots as in a plan's group record: eight bytes, the lowest first.
-fn print_set(x: u64) {
+fn print_set(rt: &impl Print, x: u64) -> io::Result<()> {
     let mut bytes = [0u8; 8];
     records::number::put(&mut bytes, x);
     let mut text = [0u8; 16];
     let n = script::encode(&bytes, &mut text);
-    print(b"set ");
-    print(&text[..n]);
+    rt.print("set ")?;
+    rt.write_all(&text[..n])
 }
 
-fn print_answer(a: Answer) {
+fn print_answer(rt: &impl Print, a: Answer) -> io::Result<()> {
     match a {
-        Answer::Refused(row) => print_refused(row),
-        Answer::Done => print(b"done"),
-        Answer::Share(s, w) => print_numbers(b"share ", s, w),
-        Answer::Depot(w, q) => print_numbers(b"depot ", w, q),
-        Answer::Difference(d, q) => print_difference(d, q),
-        Answer::Length(n) => print_length(n),
-        Answer::Reached(x) => print_set(x),
+        Answer::Refused(row) => print_refused(rt, row),
+        Answer::Done => rt.print("done"),
+        Answer::Share(s, w) => print_numbers(rt, "share ", s, w),
+        Answer::Depot(w, q) => print_numbers(rt, "depot ", w, q),
+        Answer::Difference(d, q) => print_difference(rt, d, q),
+        Answer::Length(n) => print_length(rt, n),
+        Answer::Reached(x) => print_set(rt, x),
     }
 }
 
-fn print_wrote(w: Wrote) {
+fn print_wrote(rt: &impl Print, w: Wrote) -> io::Result<()> {
     match w {
-        Wrote::Length(n) => print_length(n),
-        Wrote::Refused(row) => print_refused(row),
+        Wrote::Length(n) => print_length(rt, n),
+        Wrote::Refused(row) => print_refused(rt, row),
     }
 }
 
-fn print_wrote_both(w: WroteBoth) {
+fn print_wrote_both(rt: &impl Print, w: WroteBoth) -> io::Result<()> {
     match w {
-        WroteBoth::Lengths(n, m) => print_numbers(b"lengths ", n as u64, m as u64),
-        WroteBoth::Refused(row) => print_refused(row),
+        WroteBoth::Lengths(n, m) => print_numbers(rt, "lengths ", n as u64, m as u64),
+        WroteBoth::Refused(row) => print_refused(rt, row),
     }
 }
 
-fn print_verdict(v: Verdict) {
+fn print_verdict(rt: &impl Print, v: Verdict) -> io::Result<()> {
     match v {
-        Verdict::Passes => print(b"passes"),
-        Verdict::Refused(row) => print_refused(row),
+        Verdict::Passes => rt.print("passes"),
+        Verdict::Refused(row) => print_refused(rt, row),
     }
 }
 
-fn end_answer() {
-    print(b"\n");
+fn end_answer(rt: &impl Print) -> io::Result<()> {
+    rt.print("\n")
 }
 
 // A buffer behind an answer.
-fn print_buffer(bytes: &[u8]) {
+fn print_buffer(rt: &impl Print, bytes: &[u8]) -> io::Result<()> {
     if bytes.len() == 0 {
-        print(b" -");
-        return;
+        return rt.print(" -");
     }
     let mut text = [0u8; 16384];
     let n = script::encode(bytes, &mut text);
-    print(b" ");
-    print(&text[..n]);
+    rt.print(" ")?;
+    rt.write_all(&text[..n])
 }
 
 // The check of a list and a plan, both in hexadecimal. Here and in the other calls the first 8,192 bytes of a list or of a plan are taken.
 // What is cut off changes no answer: a list has at most 4,166 bytes and a plan at most 5,765, so a longer one is refused by its head
 // (rows 1 and 2, rows 7 to 9) or by its length (rows 3 and 10), cut or not.
-fn checked(list: &[u8], plan: &[u8]) {
+fn checked(rt: &impl Print, list: &[u8], plan: &[u8]) -> io::Result<()> {
     let mut a = [0u8; 8192];
     let mut b = [0u8; 8192];
     let n = script::decode(list, &mut a);
     let m = script::decode(plan, &mut b);
-    print_verdict(judge::check(&a[..n], &b[..m]));
-    end_answer();
+    print_verdict(rt, judge::check(&a[..n], &b[..m]))?;
+    end_answer(rt)
 }
 
 // check LIST PLAN
-fn run_check(args: &[u8]) {
-    checked(script::word(args), script::word(script::rest(args)));
+fn run_check(rt: &impl Print, args: &[u8]) -> io::Result<()> {
+    checked(rt, script::word(args), script::word(script::rest(args)))
 }
 
 // Makes the plan of a list in a buffer, and prints the answer and the buffer.
-fn made_in(list: &[u8], out: &mut [u8]) {
-    print_wrote(maker::make(list, out));
-    print_buffer(out);
-    end_answer();
+fn made_in(rt: &impl Print, list: &[u8], out: &mut [u8]) -> io::Result<()> {
+    print_wrote(rt, maker::make(list, out))?;
+    print_buffer(rt, out)?;
+    end_answer(rt)
 }
 
 // make LIST LEN
-fn run_make(args: &[u8], len: usize)
+fn run_make(rt: &impl Print, args: &[u8], len: usize) -> io::Result<()>
     requires { len ≤ 8192 }
 {
     let mut bytes = [0u8; 8192];
     let n = script::decode(script::word(args), &mut bytes);
     let mut out = [0xA5u8; 8192];
-    made_in(&bytes[..n], &mut out[..len]);
+    made_in(rt, &bytes[..n], &mut out[..len])
 }
 
 // Converts a list, back if `back` is true and else up.
@@ -218,20 +220,20 @@ fn convert(back: bool, list: &[u8], out: &mut [u8]) -> Wrote
 }
 
 // Converts a list in a buffer, and prints the answer and the buffer.
-fn converted_in(back: bool, list: &[u8], out: &mut [u8]) {
-    print_wrote(convert(back, list, out));
-    print_buffer(out);
-    end_answer();
+fn converted_in(rt: &impl Print, back: bool, list: &[u8], out: &mut [u8]) -> io::Result<()> {
+    print_wrote(rt, convert(back, list, out))?;
+    print_buffer(rt, out)?;
+    end_answer(rt)
 }
 
 // upgrade LIST LEN, downgrade LIST LEN
-fn run_convert(args: &[u8], back: bool, len: usize)
+fn run_convert(rt: &impl Print, args: &[u8], back: bool, len: usize) -> io::Result<()>
     requires { len ≤ 8192 }
 {
     let mut bytes = [0u8; 8192];
     let n = script::decode(script::word(args), &mut bytes);
     let mut out = [0xA5u8; 8192];
-    converted_in(back, &bytes[..n], &mut out[..len]);
+    converted_in(rt, back, &bytes[..n], &mut out[..len])
 }
 
 // Converts a list and its plan, back if `back` is true and else up.
@@ -245,15 +247,28 @@ fn convert_plan(back: bool, list: &[u8], plan: &[u8], out: &mut [u8], other: &mu
 }
 
 // Converts a list and its plan in two buffers, and prints the answer and both buffers.
-fn plan_converted_in(back: bool, list: &[u8], plan: &[u8], out: &mut [u8], other: &mut [u8]) {
-    print_wrote_both(convert_plan(back, list, plan, out, other));
-    print_buffer(out);
-    print_buffer(other);
-    end_answer();
+fn plan_converted_in(
+    rt: &impl Print,
+    back: bool,
+    list: &[u8],
+    plan: &[u8],
+    out: &mut [u8],
+    other: &mut [u8],
+) -> io::Result<()> {
+    print_wrote_both(rt, convert_plan(back, list, plan, out, other))?;
+    print_buffer(rt, out)?;
+    print_buffer(rt, other)?;
+    end_answer(rt)
 }
 
 // upgrade LIST PLAN LEN LEN, downgrade LIST PLAN LEN LEN
-fn run_convert_plan(args: &[u8], back: bool, first: usize, second: usize)
+fn run_convert_plan(
+    rt: &impl Print,
+    args: &[u8],
+    back: bool,
+    first: usize,
+    second: usize,
+) -> io::Result<()>
     requires { (first ≤ 8192) × (second ≤ 8192) }
 {
     let mut a = [0u8; 8192];
@@ -263,12 +278,13 @@ fn run_convert_plan(args: &[u8], back: bool, first: usize, second: usize)
     let mut out = [0xA5u8; 8192];
     let mut other = [0xA5u8; 8192];
     plan_converted_in(
+        rt,
         back,
         &a[..n],
         &b[..m],
         &mut out[..first],
         &mut other[..second],
-    );
+    )
 }
 
 // The edition of a desk.
@@ -319,29 +335,35 @@ fn fresh(second: bool, places: usize) -> Desk
 }
 
 // table N, table2 N
-fn run_table(second: bool, places: usize) -> Desk
+fn run_table(rt: &impl Print, second: bool, places: usize) -> io::Result<Desk>
     requires { places ≤ 600 }
 {
     if second {
-        print_number(b"table2 ", places as u64);
+        print_number(rt, "table2 ", places as u64)?;
     } else {
-        print_number(b"table ", places as u64);
+        print_number(rt, "table ", places as u64)?;
     }
-    end_answer();
-    fresh(second, places)
+    end_answer(rt)?;
+    Ok(fresh(second, places))
 }
 
 // The end of a line with a call's answer: `written` and `list` print the buffer.
-fn end_call(request: Request, buffer: &[u8]) {
+fn end_call(rt: &impl Print, request: Request, buffer: &[u8]) -> io::Result<()> {
     match request {
-        Request::Written | Request::ListWritten => print_buffer(buffer),
+        Request::Written | Request::ListWritten => print_buffer(rt, buffer)?,
         _ => {}
     }
-    end_answer();
+    end_answer(rt)
 }
 
 // A call of the desk, and its answer: the entry over lent bytes, which the library exports call by call.
-fn called(desk: Desk, request: Request, input: &[u8], buffer: &mut [u8]) -> Desk
+fn called(
+    rt: &impl Print,
+    desk: Desk,
+    request: Request,
+    input: &[u8],
+    buffer: &mut [u8],
+) -> io::Result<Desk>
     requires { Named (256 ^ (edition_at desk.second).litres) request }
 {
     let second = desk.second;
@@ -358,14 +380,14 @@ fn called(desk: Desk, request: Request, input: &[u8], buffer: &mut [u8]) -> Desk
         input,
         buffer,
     );
-    print_answer(answer);
-    end_call(request, buffer);
-    Desk {
+    print_answer(rt, answer)?;
+    end_call(rt, request, buffer)?;
+    Ok(Desk {
         second,
         places,
         store,
         table,
-    }
+    })
 }
 
 // The desk behind a step that is so answered: the new one where it is done, and else the old one.
@@ -378,10 +400,10 @@ fn desk_after(answer: Answer, old: Desk, new: Desk) -> Desk
     }
 }
 
-// The step of a desk of edition 1 to edition 2 and a new table of so many places, and its answer: the entry over lent bytes, which the library exports.
-fn migrated(desk: Desk, places: usize) -> Desk
+// The step of a desk of edition 1 to edition 2 and a new table of so many places: the entry over lent bytes, which the library exports.
+fn migrated(desk: Desk, places: usize) -> Step
     requires { places ≤ 600 }
-    ensures { (result ≡ desk) ⊎ ((result.second ≡ true) × (result.places ≡ places)) }
+    ensures { (result.desk ≡ desk) ⊎ ((result.desk.second ≡ true) × (result.desk.places ≡ places)) }
 {
     let store = desk.store;
     let table = desk.table;
@@ -394,27 +416,31 @@ fn migrated(desk: Desk, places: usize) -> Desk
         &mut store2,
         &mut table2[..6 * places],
     );
-    print_answer(answer);
-    end_answer();
     let new = Desk {
         second: true,
         places,
         store: store2,
         table: table2,
     };
-    desk_after(answer, desk, new)
+    Step {
+        answer,
+        desk: desk_after(answer, desk, new),
+    }
 }
 
 // migrate N
-fn run_migrate(desk: Desk, places: usize) -> Desk
+fn run_migrate(rt: &impl Print, desk: Desk, places: usize) -> io::Result<Desk>
     requires { places ≤ 600 }
-    ensures { desk.second ≡ true → result ≡ desk }
+    ensures { desk.second ≡ true → IfOk result (λ after. after ≡ desk) }
 {
     if desk.second {
-        bad();
-        return desk;
+        bad(rt)?;
+        return Ok(desk);
     }
-    migrated(desk, places)
+    let after = migrated(desk, places);
+    print_answer(rt, after.answer)?;
+    end_answer(rt)?;
+    Ok(after.desk)
 }
 
 // Puts the input of a call at the front of `out`, and answers how long it is: `load` and `propose` have one, in hexadecimal.
@@ -428,93 +454,103 @@ fn input_of(request: Request, args: &[u8], out: &mut [u8]) -> usize
 }
 
 // A call of the desk that is lent a buffer of `len` bytes.
-fn run_call(desk: Desk, request: Request, args: &[u8], len: usize) -> Desk
+fn run_call(
+    rt: &impl Print,
+    desk: Desk,
+    request: Request,
+    args: &[u8],
+    len: usize,
+) -> io::Result<Desk>
     requires { (len ≤ 8192) × Named (256 ^ (edition_at desk.second).litres) request }
 {
     let mut bytes = [0u8; 8192];
     let n = input_of(request, args, &mut bytes);
     let mut out = [0xA5u8; 8192];
-    called(desk, request, &bytes[..n], &mut out[..len])
+    called(rt, desk, request, &bytes[..n], &mut out[..len])
 }
 
 // Carries out a command that leaves the desk as it is.
-fn run_apart(command: Command, line: &[u8])
+fn run_apart(rt: &impl Print, command: Command, line: &[u8]) -> io::Result<()>
     requires { (most : ℕ) × Within most command }
 {
     match command {
-        Command::Bad => bad(),
-        Command::Check => run_check(script::rest(line)),
-        Command::Make(n) => run_make(script::rest(line), n),
-        Command::Convert(back, n) => run_convert(script::rest(line), back, n),
-        Command::ConvertPlan(back, n, m) => run_convert_plan(script::rest(line), back, n, m),
-        _ => {}
+        Command::Bad => bad(rt),
+        Command::Check => run_check(rt, script::rest(line)),
+        Command::Make(n) => run_make(rt, script::rest(line), n),
+        Command::Convert(back, n) => run_convert(rt, script::rest(line), back, n),
+        Command::ConvertPlan(back, n, m) => run_convert_plan(rt, script::rest(line), back, n, m),
+        _ => Ok(()),
     }
 }
 
 // Carries out a line.
-fn run_line(desk: Desk, line: &[u8]) -> Desk {
+fn run_line(rt: &impl Print, desk: Desk, line: &[u8]) -> io::Result<Desk> {
     let command = commands::parse(line, most_litres(desk.second));
     match command {
-        Command::Table(n) => run_table(false, n),
-        Command::Call(request) => run_call(desk, request, script::rest(line), 0),
-        Command::Written(n) => run_call(desk, Request::Written, script::rest(line), n),
-        Command::ListWritten(n) => run_call(desk, Request::ListWritten, script::rest(line), n),
-        Command::Table2(n) => run_table(true, n),
-        Command::Migrate(n) => run_migrate(desk, n),
+        Command::Table(n) => run_table(rt, false, n),
+        Command::Call(request) => run_call(rt, desk, request, script::rest(line), 0),
+        Command::Written(n) => run_call(rt, desk, Request::Written, script::rest(line), n),
+        Command::ListWritten(n) => run_call(rt, desk, Request::ListWritten, script::rest(line), n),
+        Command::Table2(n) => run_table(rt, true, n),
+        Command::Migrate(n) => run_migrate(rt, desk, n),
         _ => {
-            run_apart(command, line);
-            desk
+            run_apart(rt, command, line)?;
+            Ok(desk)
         }
     }
 }
 
 // Carries out a line of `used` bytes, which may be too many.
-fn run_used(desk: Desk, line: &[u8], used: usize) -> Desk {
+fn run_used(rt: &impl Print, desk: Desk, line: &[u8], used: usize) -> io::Result<Desk> {
     if used > line.len() {
-        bad();
-        return desk;
+        bad(rt)?;
+        return Ok(desk);
     }
-    run_line(desk, &line[..used])
+    run_line(rt, desk, &line[..used])
 }
 
 // Carries out the line that is read, and begins the next.
-fn end_line(state: State, line: &[u8]) -> State {
+fn end_line(rt: &impl Print, state: State, line: &[u8]) -> io::Result<State> {
     let desk = state.desk;
-    State {
+    Ok(State {
         more: state.more,
         used: 0,
-        desk: run_used(desk, line, state.used),
-    }
+        desk: run_used(rt, desk, line, state.used)?,
+    })
 }
 
 // Takes in a piece of the input.
-fn feed(before: State, line: &mut [u8], piece: &[u8]) -> State {
+fn feed(rt: &impl Print, before: State, line: &mut [u8], piece: &[u8]) -> io::Result<State> {
     let mut state = before;
     let mut i = 0;
     while i < piece.len() {
         let b = piece[i];
         if b == b'\n' {
-            state = end_line(state, line);
+            state = end_line(rt, state, line)?;
         } else {
             state.used = script::put(line, state.used, b);
         }
         i += 1;
     }
-    state
+    Ok(state)
 }
 
 // One read, of what is there.
-fn read_piece(before: State, line: &mut [u8]) -> State {
-    let mut piece = io::buffer();
-    let got = libc::read(STDIN_FILENO, &mut piece);
-    let n = io::count(got, &piece);
-    let mut state = feed(before, line, &piece[..n]);
-    state.more = got > 0;
-    state
+fn read_piece<R: Read>(
+    rt: &impl Print,
+    input: &mut R,
+    before: State,
+    line: &mut [u8],
+) -> io::Result<State> {
+    let mut piece = [0u8; 4096];
+    let n = input.read(&mut piece)?;
+    let mut state = feed(rt, before, line, &piece[..n])?;
+    state.more = n > 0;
+    Ok(state)
 }
 
 // A proved loop has to end, and nothing says that the input does: the loop counts its turns down, from a number that no run uses up.
-fn read_all(line: &mut [u8]) -> State {
+fn read_all<R: Read>(rt: &impl Print, input: &mut R, line: &mut [u8]) -> io::Result<State> {
     let mut state = State {
         more: true,
         used: 0,
@@ -522,16 +558,17 @@ fn read_all(line: &mut [u8]) -> State {
     };
     let mut turns = u64::MAX;
     while turns > 0 && state.more {
-        state = read_piece(state, line);
+        state = read_piece(rt, input, state, line)?;
         turns -= 1;
     }
-    state
+    Ok(state)
 }
 
-fn main() {
+fn main(rt: HostRuntime) -> io::Result<()> {
     let mut line = [0u8; 65536];
-    let state = read_all(&mut line);
+    let state = read_all(&rt, &mut rt.stdin(), &mut line)?;
     if state.used > 0 {
-        end_line(state, &line);
+        end_line(&rt, state, &line)?;
     }
+    Ok(())
 }

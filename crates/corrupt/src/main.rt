@@ -2,11 +2,13 @@
 // buffer come back as they were; load works. Where only rows 15 or 16 would refuse the held plan, or the content lies beyond what is held, the desk answers from what it holds.
 // Then tables of 0, 3, 512 and 600 places: a call stores what it is to store, and every other place keeps its content. Last, what only edition 2 can hold: large figures, rolls and isolated depots.
 #![tactic(auto)]
+
 use density::Site;
 use edition1::{Request1, narrow_store, widen_store};
 use entries1::call_on1;
 use held_state::Store;
 use records::{RollArray, no_roll};
+use std::io;
 use store::{Answer, Request};
 use store_entries2::{call_on2, fresh2};
 use table::values::narrow_low;
@@ -179,7 +181,7 @@ fn same_roll(a: RollArray, b: RollArray) -> bool {
     }
     let x = a.crews;
     let y = b.crews;
-    check::same(&x, &y)
+    x == y
 }
 
 fn same_store(a: Store, b: Store) -> bool {
@@ -261,7 +263,7 @@ struct Left {
 
 fn is_blank(buffer: [u8; 20]) -> bool {
     let whole = [0xA5u8; 20];
-    check::same(&buffer, &whole)
+    buffer == whole
 }
 
 fn called1(d: Desk, request: Request, input: &[u8]) -> Left {
@@ -347,7 +349,7 @@ fn writes(d: Desk, request: Request, n: usize, whole: &[u8]) -> bool {
         return false;
     }
     let buffer = left.buffer;
-    check::same(&buffer, whole)
+    buffer.as_slice() == whole
 }
 
 // The call is done, and the desk is this one then.
@@ -1054,18 +1056,18 @@ fn tables(start: Tally, e: u8) -> Tally {
     lent(many, e, 510, 511, 512, 600)
 }
 
-fn main() {
+fn main(rt: HostRuntime) -> io::Result<()> {
     let none = tally::nothing();
-    tally::print(b"corrupt desks", desks(desks(none, 1), 2));
-    tally::print(b"lent tables", tables(tables(none, 1), 2));
+    tally::print(&rt, "corrupt desks", desks(desks(none, 1), 2))?;
+    tally::print(&rt, "lent tables", tables(tables(none, 1), 2))?;
     let others = other_edition(other_edition(none, 1, 2), 2, 1);
-    tally::print(b"the other edition", others);
+    tally::print(&rt, "the other edition", others)?;
     let large = large_stored(large_corrupt(large_own(large(none))));
-    tally::print(b"large figures", large);
+    tally::print(&rt, "large figures", large)?;
     let rolls = beside_no_roll(rolled(corrupt_crews(corrupt_rolls(none))));
-    tally::print(b"rolls", rolls);
+    tally::print(&rt, "rolls", rolls)?;
     let histories = empty_history(opened_history(none));
     let broken = corrupt_empty(corrupt_opened(histories));
     let isolated = opened_without(opened_odd(broken));
-    tally::print(b"isolated depots", isolated);
+    tally::print(&rt, "isolated depots", isolated)
 }

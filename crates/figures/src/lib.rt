@@ -1,5 +1,6 @@
 // The figures of a list: the plan made for it, the place of each depot, and q and W of each group.
 #![tactic(auto)]
+
 ghost use Rattle.std.specs.Prelude.{◌≡◌, ◌≤◌, T};
 ghost use Rattle.density.specs.Network.{in_range};
 ghost use Rattle.records.specs.Values.{listing};

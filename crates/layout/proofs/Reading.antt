@@ -2,7 +2,6 @@
 use Prim.Native.Nat.{ℕ, zero, suc, ◌+◌, ◌*◌, ◌<◌, ◌≤◌, min}
 use mathlib.Core.Bool.{Bool, true, false, cond, ◌&&◌}
 use mathlib.Core.List.{List, [], ◌∷◌, ◌++◌, map}
-use mathlib.Core.Option.{none}
 use mathlib.Core.Path.{◌≡◌, refl, ap, sym, ◌∙◌}
 use native.Mathlib.Nat.{le_of_suc-le-suc, not-suc-le-zero}
 use native.Mathlib.Omega.{arith}
@@ -14,7 +13,6 @@ use Rattle.density.specs.Network.{no_site}
 use Rattle.records.specs.Bytes.{value, Value, field}
 use Rattle.records.specs.Record.{records}
 use Rattle.records.specs.declared.RollArray.{RollArray}
-use Rattle.records.specs.Values.{roll_array}
 use Rattle.records.proofs.Records.{records-at, length-records}
 use Rattle.table.proofs.Overlay.{map-take}
 use Rattle.held_state.specs.declared.Store.{Store}

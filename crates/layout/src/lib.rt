@@ -1,6 +1,7 @@
 // The store and the table laid in bytes, by the width of a share and of a site's litres and by whether the edition has rolls: what bytes stand for.
 // Numbers and places are read one after another by loops over a width; the widths of both editions are given to them as constants.
 #![tactic(auto)]
+
 ghost use Rattle.std.specs.Prelude.{◌≡◌, false, cond, ◌<◌, ◌≤◌, ◌+◌, ◌*◌, ◌-◌, ◌^◌, min, length, take, drop, get_or};
 ghost use Rattle.sets.specs.Sum.{any};
 ghost use Rattle.density.specs.Network.{no_site};

@@ -1,5 +1,6 @@
 // Make: a plan for a list, on values (`make_plan`) and on bytes (`make`).
 #![tactic(auto)]
+
 ghost use Rattle.std.specs.Prelude.{◌*◌, ◌≤◌, ◌^◌, T};
 ghost use Rattle.density.specs.Network.{in_range};
 ghost use Rattle.records.specs.Values.{listing};

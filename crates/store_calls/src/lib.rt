@@ -1,5 +1,6 @@
 // What each call decides, on values: the rows of a change and of an added site, and the answers to calls that only read.
 #![tactic(auto)]
+
 ghost use Rattle.std.specs.Prelude.{◌≡◌, cond, not, ◌||◌, List, ℕ, ◌*◌, ◌≤◌, leb, length, get_or};
 ghost use Rattle.density.specs.Rows.{first_row};
 ghost use Rattle.density.specs.Figures.{difference_of};

@@ -1,12 +1,13 @@
 // Check and Make beside the plain count over all sets: every small list, and random ones, without a roll and with one, with isolated depots and without. Then lists with more
 // isolated depots than the count takes.
 #![tactic(auto)]
+
 ghost use Rattle.std.specs.Prelude.{◌≤◌};
 
 use exhaustive::{has_groups, is_small, is_true};
-use libc::STDOUT_FILENO;
 use networks::{group_at, isolated, random, rolled, small, variant, variants};
 use records::{Edition, ListArray, PlanArray, Read, Wrote};
+use std::io;
 use tables::Verdict;
 
 // What came out: lists, plans of Make that the count finds false or grouped otherwise, plans judged, those that are true, and
@@ -23,7 +24,7 @@ struct Tally {
 // One more, where it is so.
 fn more(n: u64, b: bool) -> u64 {
     if b {
-        return std::num::wrapping_add_u64(n, 1);
+        return n.wrapping_add(1);
     }
     n
 }
@@ -156,7 +157,7 @@ fn counted(t: Tally, fit: bool) -> Tally {
 // Are the isolated depots, where there are any, the last group?
 fn is_last(list: ListArray, plan: PlanArray) -> bool {
     let set = isolated(list);
-    let last = std::num::wrapping_sub_usize(plan.count, 1);
+    let last = plan.count.wrapping_sub(1);
     set == 0 || group_at(plan, last) == set
 }
 
@@ -250,28 +251,26 @@ fn swept_wide() -> Tally {
     sum
 }
 
-fn line(name: &[u8], n: u64) {
-    io::write_all(STDOUT_FILENO, name);
-    io::print_decimal(STDOUT_FILENO, n);
-    io::write_all(STDOUT_FILENO, b"\n");
+fn line(rt: &impl Print, name: &str, n: u64) -> io::Result<()> {
+    println!(rt; "{name}{n}")
 }
 
-fn print_lists(t: Tally) {
-    line(b"lists ", t.lists);
-    line(b"unfit plans of make ", t.unfit);
+fn print_lists(rt: &impl Print, t: Tally) -> io::Result<()> {
+    line(rt, "lists ", t.lists)?;
+    line(rt, "unfit plans of make ", t.unfit)
 }
 
-fn print_plans(t: Tally) {
-    line(b"plans judged ", t.plans);
-    line(b"true ", t.truths);
-    line(b"differ ", t.differ);
+fn print_plans(rt: &impl Print, t: Tally) -> io::Result<()> {
+    line(rt, "plans judged ", t.plans)?;
+    line(rt, "true ", t.truths)?;
+    line(rt, "differ ", t.differ)
 }
 
-fn main() {
+fn main(rt: HostRuntime) -> io::Result<()> {
     let t = swept_small_rolled(swept_rolled(swept_random(swept_small())));
-    print_lists(t);
-    print_plans(t);
+    print_lists(&rt, t)?;
+    print_plans(&rt, t)?;
     let wide = swept_wide();
-    print_lists(wide);
-    print_plans(wide);
+    print_lists(&rt, wide)?;
+    print_plans(&rt, wide)
 }
