@@ -1,5 +1,6 @@
 // The desk by the widths of edition 1 of document 01.
 #![tactic(auto)]
+
 ghost use Rattle.std.specs.Prelude.{◌≡◌, ℕ, ◌<◌, ◌^◌, get_or};
 ghost use Rattle.std.proofs.Math.Option.{none};
 ghost use Rattle.records.specs.Values.{roll_array};

@@ -13,7 +13,7 @@ use contract.Lifetimes.{Lfts}
 use contract.Notation.{connectives}
 use types.Logic.{Logic}
 use base.Logic.{SProp}
-use denote.Ref.{Bor}
+use denote.Ref.{Bor, MutBor}
 use Rattle.records.specs.Format.{edition1}
 use Rattle.records.proofs.Samples.{marked1}
 use Rattle.table.specs.declared.Site1.{Site1}
@@ -43,7 +43,7 @@ module _ {M : Type 1} {𝓤 : Ura M} (𝓛 : Logic 𝓤) (mem : Memory → SProp
   fresh1-asks : (κs : Lfts 0) → (of-fresh1.clauses 𝓛 mem run κs tt).requires tt ≡ ⊤ₛ
   fresh1-asks κs = refl
 
-  module _ (κs : Lfts 3) (s : Store1) (table table' : Bor (List Site1)) (q : Request1) (input input' buffer buffer' : Bor (List ℕ)) where
+  module _ (κs : Lfts 3) (s : Store1) (table table' : MutBor (List Site1)) (q : Request1) (input input' : Bor (List ℕ)) (buffer buffer' : MutBor (List ℕ)) where
     call1-says : (r : Out1)
         → (of-call1.clauses 𝓛 mem run κs (s, (table, (q, (input, (buffer, tt)))))).ensures tt r (s, (table', (q, (input', (buffer', tt)))))
         ≡ ⌜ Called1 s table.now (record { request = q; input = input.now; buffer = buffer.now }) (record { answer = r.answer; store = r.store; table = table'.now; buffer = buffer'.now }) ⌝
@@ -52,7 +52,7 @@ module _ {M : Type 1} {𝓤 : Ura M} (𝓛 : Logic 𝓤) (mem : Memory → SProp
     call1-asks : (of-call1.clauses 𝓛 mem run κs (s, (table, (q, (input, (buffer, tt)))))).requires tt ≡ ⊤ₛ
     call1-asks = refl
 
-  module _ (κs : Lfts 2) (s : Store1) (table : List Site1) (k : ℕ) (q : Request1) (input input' buffer buffer' : Bor (List ℕ)) where
+  module _ (κs : Lfts 2) (s : Store1) (table : List Site1) (k : ℕ) (q : Request1) (input input' : Bor (List ℕ)) (buffer buffer' : MutBor (List ℕ)) where
     call-on1-says : (r : OutOn1)
         → (of-call-on1.clauses 𝓛 mem run κs (s, (table, (k, (q, (input, (buffer, tt))))))).ensures tt r (s, (table, (k, (q, (input', (buffer', tt))))))
         ≡ ⌜ CalledOn1 k s table (record { request = q; input = input.now; buffer = buffer.now }) (record { answer = r.answer; store = r.store; table = r.table; buffer = buffer'.now }) ⌝

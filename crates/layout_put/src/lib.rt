@@ -1,6 +1,7 @@
 // What is written over the bytes of a store and of a table, by the width of a share and of a site's litres. What stands in front of a store's roll and the roll are written apart.
 // Numbers and places are written one after another by loops over a width; the widths of both editions are given as constants to that of the places, edition 1's to that of the shares.
 #![tactic(auto)]
+
 ghost use Rattle.std.specs.Prelude.{◌≡◌, true, cond, ℕ, ◌<◌, ◌≤◌, ◌+◌, ◌*◌, ◌^◌, length, take, get_or, replicate};
 ghost use mathlib.Core.List.{flat_map};
 ghost use Rattle.records.specs.Bytes.{le};

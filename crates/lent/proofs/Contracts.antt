@@ -13,7 +13,7 @@ use contract.Lifetimes.{Lfts}
 use contract.Notation.{connectives}
 use types.Logic.{Logic}
 use base.Logic.{SProp}
-use denote.Ref.{Bor}
+use denote.Ref.{Bor, MutBor}
 use borrow.Author.Tests.{eq-eqb}
 use lib.Dec.{eqb}
 use lib.ListN.{length}
@@ -47,14 +47,14 @@ use Rattle.lent.specs.contracts.call as of-call
 module _ {M : Type 1} {𝓤 : Ura M} (𝓛 : Logic 𝓤) (mem : Memory → SProp 𝓤) (run : Routine → Fun 𝓤) (e : Edition) where
   open connectives 𝓤 use {⌜◌⌝}
 
-  module _ (κs : Lfts 1) (store store' : Bor (List ℕ)) where
+  module _ (κs : Lfts 1) (store store' : MutBor (List ℕ)) where
     fresh-says : (of-fresh.clauses 𝓛 mem run κs (e, (store, tt))).ensures tt tt (e, (store', tt)) ≡ ⌜ Freshened e store'.now ⌝
     fresh-says = refl
 
     fresh-asks : (of-fresh.clauses 𝓛 mem run κs (e, (store, tt))).requires tt ≡ ⌜ is_of e store.now ≡ true ⌝
     fresh-asks = refl
 
-  module _ (κs : Lfts 3) (store store' table table' input input' : Bor (List ℕ)) where
+  module _ (κs : Lfts 3) (store store' table table' : MutBor (List ℕ)) (input input' : Bor (List ℕ)) where
     load-says : (r : Answer)
         → (of-load.clauses 𝓛 mem run κs (e, (store, (table, (input, tt))))).ensures tt r (e, (store', (table', (input', tt))))
         ≡ ⌜ ((buffer : List ℕ)
@@ -64,7 +64,8 @@ module _ {M : Type 1} {𝓤 : Ura M} (𝓛 : Logic 𝓤) (mem : Memory → SProp
     load_asks : (of-load.clauses 𝓛 mem run κs (e, (store, (table, (input, tt))))).requires tt ≡ ⌜ Fitting e × (is_of e store.now ≡ true) ⌝
     load_asks = refl
 
-    -- the table is only read
+  -- the table is only read
+  module _ (κs : Lfts 3) (store store' : MutBor (List ℕ)) (table table' input input' : Bor (List ℕ)) where
     propose-says : (r : Answer)
         → (of-propose.clauses 𝓛 mem run κs (e, (store, (table, (input, tt))))).ensures tt r (e, (store', (table', (input', tt))))
         ≡ ⌜ ((buffer : List ℕ)
@@ -74,7 +75,7 @@ module _ {M : Type 1} {𝓤 : Ura M} (𝓛 : Logic 𝓤) (mem : Memory → SProp
     propose-asks : (of-propose.clauses 𝓛 mem run κs (e, (store, (table, (input, tt))))).requires tt ≡ ⌜ Fitting e × (is_of e store.now ≡ true) ⌝
     propose-asks = refl
 
-  module _ (κs : Lfts 2) (store store' table table' : Bor (List ℕ)) where
+  module _ (κs : Lfts 2) (store store' table table' : MutBor (List ℕ)) where
     change-says : (i w : ℕ) (r : Answer)
         → (of-change.clauses 𝓛 mem run κs (e, (store, (table, (i, (w, tt)))))).ensures tt r (e, (store', (table', (i, (w, tt)))))
         ≡ ⌜ ((input buffer : List ℕ) → Bytes input
@@ -98,7 +99,7 @@ module _ {M : Type 1} {𝓤 : Ura M} (𝓛 : Logic 𝓤) (mem : Memory → SProp
     add-asks x = refl
 
   -- the store and the table are only read
-  module _ (κs : Lfts 3) (store store' table table' : Bor (List ℕ)) (q : Request) (buffer buffer' : Bor (List ℕ)) where
+  module _ (κs : Lfts 3) (store store' table table' : Bor (List ℕ)) (q : Request) (buffer buffer' : MutBor (List ℕ)) where
     look-says : (r : Answer)
         → (of-look.clauses 𝓛 mem run κs (e, (store, (table, (q, (buffer, tt)))))).ensures tt r (e, (store', (table', (q, (buffer', tt)))))
         ≡ ⌜ ((input : List ℕ) → Bytes input
@@ -108,7 +109,7 @@ module _ {M : Type 1} {𝓤 : Ura M} (𝓛 : Logic 𝓤) (mem : Memory → SProp
     look-asks : (of-look.clauses 𝓛 mem run κs (e, (store, (table, (q, (buffer, tt)))))).requires tt ≡ ⌜ Fitting e × (is_of e store.now ≡ true) × ReadsOnly q ⌝
     look-asks = refl
 
-  module _ (κs : Lfts 4) (store store' table table' : Bor (List ℕ)) (q : Request) (input input' buffer buffer' : Bor (List ℕ)) where
+  module _ (κs : Lfts 4) (store store' table table' : MutBor (List ℕ)) (q : Request) (input input' : Bor (List ℕ)) (buffer buffer' : MutBor (List ℕ)) where
     call-says : (r : Answer)
         → (of-call.clauses 𝓛 mem run κs (e, (store, (table, (q, (input, (buffer, tt))))))).ensures tt r (e, (store', (table', (q, (input', (buffer', tt))))))
         ≡ ⌜ Called e store.now table.now (record { request = q; input = input.now; buffer = buffer.now }) (told r) store'.now table'.now buffer'.now ⌝

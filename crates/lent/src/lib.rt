@@ -1,5 +1,6 @@
 // The store's calls over bytes that the caller lends, at an edition's widths. The bytes have the length of a store of the edition (`is_of`); what the caller gives is tested before.
 #![tactic(auto)]
+
 ghost use Rattle.std.specs.Prelude.{◌≡◌, true, List, ℕ, ◌<◌, ◌≤◌, ◌^◌, take};
 ghost use Rattle.records.specs.Bytes.{Bytes};
 ghost use Rattle.records.specs.declared.ListArray.{ListArray};

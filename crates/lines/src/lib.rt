@@ -1,5 +1,6 @@
 // What is printed of a depot, of a group and of a site of the plan made.
 #![tactic(auto)]
+
 ghost use Rattle.std.specs.Prelude.{◌≡◌, ◌+◌, ◌*◌, ◌<◌, T};
 ghost use Rattle.density.specs.Groups.{groups_of};
 ghost use Rattle.density.specs.Plan.{Rules};

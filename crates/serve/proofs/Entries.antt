@@ -58,7 +58,7 @@ module _ {E : Entry} (L : Lawful E) where
       → (map (replied E) rs ≡ map (replied E) rs') × (s ≡ s') × (t ≡ t')
   calls-one {s} {s'} {table} {t} {t'} x y =
       let (replies, views) = one-history (calls-history x) (calls-history y) in
-      (replies, L.same_Store s s' (ap (λ (z : State). z.store) views), L.same-table t t' (ap (λ (z : State). z.table) views))
+      (replies, L.same_store s s' (ap (λ (z : State). z.store) views), L.same-table t t' (ap (λ (z : State). z.table) views))
 
 -- Two stores that hold the same list after such calls, of one edition or of two: each W, q, w × q, difference and set of depots that both answer is the same.
 pub calls-same-figures : {E F : Entry} → Lawful E → Lawful F → {s : E.StoreType} {t u : List E.SiteType} {ps : List (Passed E)} {rs : List (Result E)}

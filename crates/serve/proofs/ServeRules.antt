@@ -35,7 +35,7 @@ use Rattle.store.specs.declared.Answer.{Answer}
 use Rattle.store.specs.declared.Answer.TheVariants as of
 use Rattle.store.specs.Calls.{Call, Reply, same, told, refused as row, done}
 use Rattle.store.specs.Model.{Model, rows_of, with_litres}
-use Rattle.store.specs.State.{Done, model_of, tries_zero, bare, next, stays, refusal, step}
+use Rattle.store.specs.State.{model_of, tries_zero, bare, next, stays, refusal, step}
 use Rattle.store.specs.Decide.{takes}
 use Rattle.store.specs.Trace.{ReadsOnly}
 use Rattle.store.proofs.Rules.{reading-leaves}

@@ -1,5 +1,6 @@
 // The calls of the store, on values: what a call that is lent a table of site structs decides.
 #![tactic(auto)]
+
 ghost use Rattle.std.specs.Prelude.{◌≡◌, List, ℕ, ◌≤◌, length, take};
 ghost use Rattle.density.specs.declared.Site.{Site};
 ghost use Rattle.records.specs.declared.Edition.{Edition};

@@ -13,7 +13,7 @@ use contract.Lifetimes.{Lfts}
 use contract.Notation.{connectives}
 use types.Logic.{Logic}
 use base.Logic.{SProp}
-use denote.Ref.{Bor}
+use denote.Ref.{Bor, MutBor}
 use Rattle.density.specs.declared.Site.{Site}
 use Rattle.records.specs.Format.{edition2}
 use Rattle.records.proofs.Samples.{marked2}
@@ -40,7 +40,7 @@ module _ {M : Type 1} {𝓤 : Ura M} (𝓛 : Logic 𝓤) (mem : Memory → SProp
   fresh2-asks : (κs : Lfts 0) → (of-fresh2.clauses 𝓛 mem run κs tt).requires tt ≡ ⊤ₛ
   fresh2-asks κs = refl
 
-  module _ (κs : Lfts 3) (s : Store) (table table' : Bor (List Site)) (q : Request) (input input' buffer buffer' : Bor (List ℕ)) where
+  module _ (κs : Lfts 3) (s : Store) (table table' : MutBor (List Site)) (q : Request) (input input' : Bor (List ℕ)) (buffer buffer' : MutBor (List ℕ)) where
     call2-says : (r : Out2)
         → (of-call2.clauses 𝓛 mem run κs (s, (table, (q, (input, (buffer, tt)))))).ensures tt r (s, (table', (q, (input', (buffer', tt)))))
         ≡ ⌜ Called2 s table.now (record { request = q; input = input.now; buffer = buffer.now }) (record { answer = r.answer; store = r.store; table = table'.now; buffer = buffer'.now }) ⌝
@@ -49,7 +49,7 @@ module _ {M : Type 1} {𝓤 : Ura M} (𝓛 : Logic 𝓤) (mem : Memory → SProp
     call2-asks : (of-call2.clauses 𝓛 mem run κs (s, (table, (q, (input, (buffer, tt)))))).requires tt ≡ ⊤ₛ
     call2-asks = refl
 
-  module _ (κs : Lfts 2) (s : Store) (table : List Site) (k : ℕ) (q : Request) (input input' buffer buffer' : Bor (List ℕ)) where
+  module _ (κs : Lfts 2) (s : Store) (table : List Site) (k : ℕ) (q : Request) (input input' : Bor (List ℕ)) (buffer buffer' : MutBor (List ℕ)) where
     call-on2-says : (r : OutOn2)
         → (of-call-on2.clauses 𝓛 mem run κs (s, (table, (k, (q, (input, (buffer, tt))))))).ensures tt r (s, (table, (k, (q, (input', (buffer', tt))))))
         ≡ ⌜ CalledOn2 k s table (record { request = q; input = input.now; buffer = buffer.now }) (record { answer = r.answer; store = r.store; table = r.table; buffer = buffer'.now }) ⌝

@@ -1,3 +1,2 @@
 pub mod Contracts
 pub mod Named2
-pub mod Rows2

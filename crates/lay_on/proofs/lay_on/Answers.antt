@@ -8,31 +8,28 @@ use Rattle.residual.specs.Array.{total_load}
 use Rattle.lay_on.specs.Raise.{raise}
 use Rattle.lay_on.proofs.Laws.{part-most, raise-total}
 use Rattle.lay_on.proofs.lay_on.Goals as goal
-use Rattle.lay_on.proofs.lay_on.Goals.{Start}
 
 pub overflow_sub-second : goal.overflow_sub-second
 overflow_sub-second c = part-most c.args.inside c.args.t c.part-first.ensures
 
 pub add_to-requires : goal.add_to-requires
-add_to-requires c =
-    let s = (goal.at.add_to-requires c).Start in (
-      s.requires.i_bound.1,
-      s.requires.share_len.1,
-      omega (arith, part-most s.args.inside s.args.t c.part-first.ensures, s.requires.share_len.2),
-    )
+add_to-requires c = (
+  c.requires.i_bound.1,
+  c.requires.share_len.1,
+  omega (arith, part-most c.args.inside c.args.t c.part-first.ensures, c.requires.share_len.2),
+)
 
 pub add_to-requires-2 : goal.add_to-requires-2
-add_to-requires-2 c =
-    let s = (goal.at.add_to-requires-2 c).Start in (
-      s.requires.i_bound.2,
-      rw c.add_to.ensures (simp length-set s.requires.share_len.1),
-      omega (
-        arith,
-        part-most s.args.inside s.args.t c.part-first.ensures,
-        ap total_load c.add_to.ensures ∙ raise-total s.args.load.now s.args.x c.part-first.result s.requires.share_len.1 s.requires.i_bound.1,
-        s.requires.share_len.2,
-      ),
-    )
+add_to-requires-2 c = (
+  c.requires.i_bound.2,
+  rw c.add_to.ensures (simp length-set c.requires.share_len.1),
+  omega (
+    arith,
+    part-most c.args.inside c.args.t c.part-first.ensures,
+    ap total_load c.add_to.ensures ∙ raise-total c.args.load.now c.args.x c.part-first.result c.requires.share_len.1 c.requires.i_bound.1,
+    c.requires.share_len.2,
+  ),
+)
 
 pub returns : goal.returns
 returns c =
