@@ -14,7 +14,7 @@ fn main() {
         println!("cargo:rerun-if-changed={}", archive.display());
         if !archive.is_file() {
             panic!(
-                "{} is missing: run `rt staticlib {name}` in the repository's root, or set SULGHETI_LIB to the archives' folder",
+                "{} is missing: run tools/archives.sh in the repository's root, or set SULGHETI_LIB to the archives' folder",
                 archive.display()
             );
         }

@@ -1,6 +1,6 @@
 #!/usr/bin/env bash
 # Tests of the first program beside its sample: tests/depots/NAME.in on standard input gives NAME.out, also in pieces.
-# Needs target/bin/depots, which `rt check depots` builds.
+# Needs crates/depots/out/depots, which `rt run` in crates/depots builds.
 #   none           no input at all
 #   row1 to row6   a list that the row refuses: a wrong head mark, 513 sites, a length that is one short, a wrong site mark, a depot above 63, no litres
 #   full           512 sites: site i is an own site of depot i mod 64, each of 65,535
@@ -24,7 +24,7 @@ pieces() {
 
 for list in tests/depots/*.in; do
     want=${list%.in}.out
-    target/bin/depots <"$list" | cmp - "$want" || fail "$list: not the stored output"
-    pieces "$list" | target/bin/depots | cmp - "$want" || fail "$list in pieces: not the stored output"
+    crates/depots/out/depots <"$list" | cmp - "$want" || fail "$list: not the stored output"
+    pieces "$list" | crates/depots/out/depots | cmp - "$want" || fail "$list in pieces: not the stored output"
 done
 echo "depots.sh: each list of tests/depots/ gives its stored output"

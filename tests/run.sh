@@ -5,9 +5,9 @@
 #
 #     tests/run.sh [--cases N] [--seed S]
 #
-# Builds target/staticlib/libengine.a and libdesk.a by `rt staticlib`, each unless it is there and newer than
-# everything under crates/. With SULGHETI_LIB set, the archives in that folder are tested instead.
-# Builds target/bin/depots, plan and console by `rt check`, which leaves what is unchanged as it is.
+# Builds target/staticlib/libengine.a and libdesk.a (tools/archives.sh). With SULGHETI_LIB set, the archives in that folder are tested instead.
+# Builds crates/NAME/out/NAME for the programs depots, plan and console by `rt run`. Archives and programs that are there and newer than
+# all of crates/ that rt did not make are left as they are: so the gate tests here the programs that it has just proved.
 # Needs cargo, a C compiler and nm, on x86-64 Linux; no network. N is the number of random cases (200,000 unless given) and S
 # their seed. The last line has the number of all cases of tests/src; exit status 0: all passed.
 set -euo pipefail
@@ -19,21 +19,20 @@ done
 mkdir -p target
 
 if [ -z "${SULGHETI_LIB:-}" ]; then
+    bash tools/archives.sh
     SULGHETI_LIB=$PWD/target/staticlib
-    # one after the other: two runs of rt at once in one folder read each other's unfinished notes
-    for name in engine desk; do
-        archive=$SULGHETI_LIB/lib$name.a
-        if [ ! -f "$archive" ] || [ -n "$(find crates crates.txt -newer "$archive" -print -quit)" ]; then
-            rt staticlib "$name" >target/staticlib.log 2>&1 || { cat target/staticlib.log; exit 1; }
-            tail -n 1 target/staticlib.log
-        fi
-    done
 fi
 
 export SULGHETI_LIB
 
 # the first program; lists in words, and their plans for a person to read
-rt check depots plan console >target/programs.log 2>&1 || { cat target/programs.log; exit 1; }
+log=$PWD/target/programs.log
+for name in depots plan console; do
+    program=crates/$name/out/$name
+    if [ ! -f "$program" ] || [ -n "$(find crates.txt crates/*/* -name out -prune -o -newer "$program" -print -quit)" ]; then
+        (cd "crates/$name" && rt run) </dev/null >"$log" 2>&1 || { cat "$log"; exit 1; }
+    fi
+done
 bash tests/depots.sh
 bash tests/plan.sh
 

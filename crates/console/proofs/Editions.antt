@@ -1,4 +1,4 @@
--- The widths of the editions that a desk may have, and the front of an array as a store of either. Assumes nothing.
+-- The front of an array as a store of either edition. Assumes nothing.
 use Prim.Native.Nat.{ℕ, ◌≤◌}
 use mathlib.Core.Path.{◌≡◌, sym, ◌∙◌}
 use mathlib.Core.Bool.{Bool, true, false}
@@ -8,14 +8,9 @@ use lib.Dec.{lit≤}
 use lib.ListN.{length, take}
 use lib.Seq.{length-take-le}
 use borrow.Author.Tests.{eq-eqb}
-use Rattle.store.specs.Widths.{Fitting}
 use Rattle.layout.specs.Layout.{store_size}
 use Rattle.lent.specs.Lent.{is_of}
 use Rattle.console.specs.Editions.{edition_at}
-
-pub fitting : (second : Bool) → Fitting (edition_at second)
-fitting true = (lit≤ tt, lit≤ tt)
-fitting false = (lit≤ tt, lit≤ tt)
 
 store-fits : (second : Bool) → store_size (edition_at second).share (edition_at second).roll ≤ 4704
 store-fits true = lit≤ tt
@@ -23,7 +18,7 @@ store-fits false = lit≤ tt
 
 -- n is the length of a store
 module _ (second : Bool) {n : ℕ} (e : n ≡ store_size (edition_at second).share (edition_at second).roll) where
-  pub store-within : n ≤ 4704
+  store-within : n ≤ 4704
   store-within = rw e (store-fits second)
 
   module _ (s : List ℕ) (long : length s ≡ 4704) where

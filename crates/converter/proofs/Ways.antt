@@ -54,7 +54,7 @@ unfolding outside
 fits-down l h i k =
     let test : ℕ → Bool = λ i. is_outside (site_at l i) in
     let w = (site_at l i).litres in
-    let small : w ≤ 65535 = nltb→le 65535 w (not_T (ltb 65535 w) (λ t. fails (any test (length l.sites)) h (any-from test (length l.sites) i k (or_r (eqb w 0) (ltb 65535 w) t)))) in
+    let small = nltb→le _ w (not_T _ (λ t. fails (any test (length l.sites)) h (any-from test (length l.sites) i k (or_r (eqb w 0) _ t)))) in
     omega arith
 
 -- the litres of sites that edition 1 has are not outside
@@ -65,8 +65,8 @@ inside l good =
     let (i, k, u) = any_at test (length l.sites) t in
     let g = all-at (Good edition1) no_site l.sites good i k in
     let w = (site_at l i).litres in
-    ⊎_elim (λ z. let e = eqb→eq w 0 z in let p = g.allowed.some in omega arith) (λ z. let a = ltb→lt 65535 w z in let q = g.fits in omega arith)
-    (or_cases (eqb w 0) (ltb 65535 w) u))
+    ⊎_elim (λ z. let e = eqb→eq w 0 z in let p = g.allowed.some in omega arith) (λ z. let a = ltb→lt _ w z in let q = g.fits in omega arith)
+    (or_cases (eqb w 0) _ u))
   where
     test : ℕ → Bool
     test i = is_outside (site_at l i)

@@ -11,7 +11,7 @@ use contract.Lifetimes.{Lfts}
 use contract.Notation.{connectives}
 use types.Logic.{Logic}
 use base.Logic.{SProp}
-use denote.Ref.{Bor}
+use denote.Ref.{Bor, MutBor}
 use lib.IntN.{ℤ}
 use Rattle.records.specs.Format.{edition_of, read_list}
 use Rattle.judge.specs.Check.{check_row}
@@ -34,29 +34,29 @@ module _ {M : Type 1} {𝓤 : Ura M} (𝓛 : Logic 𝓤) (mem : Memory → SProp
   check-asks : (plan : Bor (List ℕ)) → (of-check.clauses 𝓛 mem run κs (list, (plan, tt))).requires tt ≡ ⊤ₛ
   check-asks plan = refl
 
-  make-says : (out out' : Bor (List ℕ))
+  make-says : (out out' : MutBor (List ℕ))
       → (of-make.clauses 𝓛 mem run κs (list, (out, tt))).ensures tt r (list', (out', tt)) ≡ ⌜ MadeCode (edition_of list.now) (read_list (edition_of list.now) 512 list.now) out.now r out'.now ⌝
   make-says out out' = refl
 
-  make-asks : (out : Bor (List ℕ)) → (of-make.clauses 𝓛 mem run κs (list, (out, tt))).requires tt ≡ ⊤ₛ
+  make-asks : (out : MutBor (List ℕ)) → (of-make.clauses 𝓛 mem run κs (list, (out, tt))).requires tt ≡ ⊤ₛ
   make-asks out = refl
 
-  upgrade-list-says : (out out' : Bor (List ℕ))
+  upgrade-list-says : (out out' : MutBor (List ℕ))
       → (of-upgrade-list.clauses 𝓛 mem run κs (list, (out, tt))).ensures tt r (list', (out', tt)) ≡ ⌜ ListCode (convert_list upgrade list.now out.now) out.now r out'.now ⌝
   upgrade-list-says out out' = refl
 
-  upgrade-list-asks : (out : Bor (List ℕ)) → (of-upgrade-list.clauses 𝓛 mem run κs (list, (out, tt))).requires tt ≡ ⊤ₛ
+  upgrade-list-asks : (out : MutBor (List ℕ)) → (of-upgrade-list.clauses 𝓛 mem run κs (list, (out, tt))).requires tt ≡ ⊤ₛ
   upgrade-list-asks out = refl
 
-  downgrade-list-says : (out out' : Bor (List ℕ))
+  downgrade-list-says : (out out' : MutBor (List ℕ))
       → (of-downgrade-list.clauses 𝓛 mem run κs (list, (out, tt))).ensures tt r (list', (out', tt)) ≡ ⌜ ListCode (convert_list downgrade list.now out.now) out.now r out'.now ⌝
   downgrade-list-says out out' = refl
 
-  downgrade-list-asks : (out : Bor (List ℕ)) → (of-downgrade-list.clauses 𝓛 mem run κs (list, (out, tt))).requires tt ≡ ⊤ₛ
+  downgrade-list-asks : (out : MutBor (List ℕ)) → (of-downgrade-list.clauses 𝓛 mem run κs (list, (out, tt))).requires tt ≡ ⊤ₛ
   downgrade-list-asks out = refl
 
 module _ {M : Type 1} {𝓤 : Ura M} (𝓛 : Logic 𝓤) (mem : Memory → SProp 𝓤) (run : Routine → Fun 𝓤) (κs : Lfts 5)
-    (list list' plan plan' out out' other other' : Bor (List ℕ)) (len len' : Bor ℕ) where
+    (list list' plan plan' : Bor (List ℕ)) (out out' other other' : MutBor (List ℕ)) (len len' : MutBor ℕ) where
   open connectives 𝓤 use {⌜◌⌝, ⊤ₛ}
 
   upgrade-plan-says : (r : ℤ)

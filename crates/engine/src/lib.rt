@@ -1,5 +1,6 @@
 // The static library for Rust and C: Check, Make and files between editions, each answered by a number; where a list and its plan are written, the plan's length goes beside it.
 #![tactic(auto)]
+
 ghost use Rattle.std.specs.Prelude.{◌≡◌, ℕ, ◌<◌, ◌^◌};
 ghost use Rattle.records.specs.declared.Wrote.TheVariants as one;
 ghost use Rattle.records.specs.declared.WroteBoth.TheVariants as both;

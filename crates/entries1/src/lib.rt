@@ -1,5 +1,6 @@
 // The entries of edition 1 of document 01: a desk call over a lent table, and over a table by value.
 #![tactic(auto)]
+
 ghost use Rattle.std.specs.Prelude.{◌≡◌, take, drop};
 ghost use Rattle.store.specs.State.{step};
 ghost use Rattle.edition1.specs.Edition1.{view1, request_of1, call_of1, Typed1, turned1};

@@ -12,9 +12,8 @@ use Rattle.density.specs.declared.Site.{Site}
 use Rattle.density.specs.Network.{Listing, no_site, site_at, in_range}
 use Rattle.density.specs.Rows.{first_row, row}
 use Rattle.records.specs.declared.Edition.{Edition}
-use Rattle.records.specs.Bytes.{Bytes}
 use Rattle.records.specs.Values.{Plan}
-use Rattle.records.specs.Outcome.{refused, passed, gate}
+use Rattle.records.specs.Outcome.{passed, gate}
 use Rattle.records.specs.Format.{edition1, edition2, read_list}
 use Rattle.records.specs.Write.{list_bytes, plan_bytes, is_short, fitted, Good, Marked}
 use Rattle.records.specs.Files.{Files, files, fitted_both, plan_part}

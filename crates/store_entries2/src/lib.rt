@@ -1,5 +1,6 @@
 // The entries of edition 2 of document 02, c: a store call over a lent table, and over a table by value. Its store, sites and requests are those of the definition.
 #![tactic(auto)]
+
 ghost use Rattle.std.specs.Prelude.{◌≡◌, take, drop};
 ghost use Rattle.records.specs.Format.{edition2};
 ghost use Rattle.store.specs.State.{step};

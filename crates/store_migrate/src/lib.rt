@@ -1,5 +1,6 @@
 // The step of a store of edition 1 to edition 2 over lent tables of site structs (document 02, e: "A busy desk goes over").
 #![tactic(auto)]
+
 ghost use Rattle.std.specs.Prelude.{◌≡◌, true, List, ◌≤◌, length, replicate};
 ghost use Rattle.density.specs.declared.Site.{Site};
 ghost use Rattle.records.specs.declared.Edition.{Edition};

@@ -14,7 +14,7 @@ use contract.Lifetimes.{Lfts}
 use contract.Notation.{connectives}
 use types.Logic.{Logic}
 use base.Logic.{SProp}
-use denote.Ref.{Bor}
+use denote.Ref.{Bor, MutBor}
 use native.Mathlib.Omega.{arith}
 use lib.Dec.{eqb}
 use Rattle.records.specs.declared.Edition.{Edition}
@@ -36,7 +36,7 @@ use Rattle.store_migrate_bytes.specs.contracts.migrate as of-migrate
 
 -- the old store and its table are only read
 module _ {M : Type 1} {𝓤 : Ura M} (𝓛 : Logic 𝓤) (mem : Memory → SProp 𝓤) (run : Routine → Fun 𝓤) (κs : Lfts 4)
-    (store store' table table' store2 store2' table2 table2' : Bor (List ℕ)) where
+    (store store' table table' : Bor (List ℕ)) (store2 store2' table2 table2' : MutBor (List ℕ)) where
   open connectives 𝓤 use {⌜◌⌝}
 
   migrate-says : (r : Answer)

@@ -1,5 +1,6 @@
 // The step of a store of edition 1 to edition 2 over bytes that the caller lends (document 02, e: "A busy desk goes over").
 #![tactic(auto)]
+
 ghost use Rattle.std.specs.Prelude.{◌≡◌, true};
 ghost use Rattle.records.specs.Format.{edition1, edition2};
 ghost use Rattle.store.specs.Calls.{told};

@@ -9,7 +9,7 @@ use Rattle.records.specs.Values.{listing}
 use Rattle.converter.proofs.Found.{outside-listing}
 use borrow.Author.Rules.{rules}
 use Rattle.converter.proofs.any_outside.Goals as goal
-use Rattle.converter.proofs.any_outside.Goals.{At-loop-i, In-loop-i, Start}
+use Rattle.converter.proofs.any_outside.Goals.{Start}
 
 -- the list's sites are as many as it counts
 each : (s : Start) → length (listing s.args.list).sites ≡ s.args.list.count
@@ -22,16 +22,12 @@ loop-i-init c = (search rules, any-start _)
 
 pub returns-then-is_outside : goal.returns-then-is_outside
 returns-then-is_outside c =
-    let test = (goal.at.returns-then-is_outside c).In-loop-i in
-    let turn = (goal.at.In-loop-i test).At-loop-i in
-    let s = (goal.at.At-loop-i turn).Start in
-    sym (outside-listing s.args.list (each s) ∙ any_here _ _ turn.loop-i.i test.loop-i-test.true (sym c.is_outside.ensures ∙ c.if-is_outside.true))
+    let s = (goal.at.returns-then-is_outside c).Start in
+    sym (outside-listing s.args.list (each s) ∙ any_here _ _ c.loop-i.i c.loop-i-test.true (sym c.is_outside.ensures ∙ c.if-is_outside.true))
 
 pub loop-i-preserved : goal.loop-i-preserved
 loop-i-preserved c =
-    let test = (goal.at.loop-i-preserved c).In-loop-i in
-    let turn = (goal.at.In-loop-i test).At-loop-i in
-    (search rules, any-more _ turn.loop-i.i turn.loop-i.invariant.1 (sym c.is_outside.ensures ∙ c.if-is_outside.false))
+    (search rules, any-more _ c.loop-i.i c.loop-i.invariant.1 (sym c.is_outside.ensures ∙ c.if-is_outside.false))
 
 pub returns : goal.returns
 returns c =

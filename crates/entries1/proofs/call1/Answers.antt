@@ -1,13 +1,10 @@
 -- `entries1::call1` meets its contract. Assumes nothing.
-use Rattle.std.proofs.Common.{◌≡◌, ◌≤◌, length, take, map, arith, sym, ap, subst, refl, ◌∙◌}
+use Rattle.std.proofs.Common.{◌≤◌, length, take, arith, sym, ap, subst, refl, ◌∙◌}
 use Rattle.records.specs.Format.{edition1}
-use Rattle.table.specs.declared.Site1.{Site1}
-use Rattle.table.specs.Table.{between}
 use Rattle.table.specs.Widths.{no_site1, widened}
 use Rattle.table.proofs.Overlay.{held-stands}
 use Rattle.store.specs.Calls.{told}
-use Rattle.edition1.specs.Edition1.{store_of1, request_of1, turned1}
-use Rattle.serve.specs.declared.Places.{Places}
+use Rattle.edition1.specs.Edition1.{store_of1, request_of1}
 use Rattle.serve.specs.Stored.{Among}
 use Rattle.serve.proofs.StoredSteps.{among, seen-steps}
 use Rattle.entries1.proofs.call1.Goals as goal
@@ -22,9 +19,10 @@ store1-requires c =
 pub returns : goal.returns
 returns c =
     let d = c.serve1-d.result in
-    let few : d.n ≤ length d.sites = omega (arith, c.serve1-d.ensures.1.few, c.serve1-d.type_inv) in
-    (c.serve1-d.ensures.0,
+    let few : d.n ≤ length d.sites = omega (arith, c.serve1-d.ensures.1.few, c.serve1-d.type_inv) in (
+      c.serve1-d.ensures.0,
       rw (c.store1.ensures, c.stored1-places.ensures)
-      (seen-steps widened edition1 (store_of1 c.args.store) c.args.table.now d.sites d.n c.args.input.now c.args.buffer.now few c.serve1-d.ensures.1.room (request_of1 c.args.request) (store_of1 d.store)
-      (record { answer = told d.answer; buffer = c.serve1-d.new.buffer })
-      (c.serve1-d.ensures.1.steps c.args.table.now refl (ap (take (length c.args.table.now)) c.held1-sites.ensures ∙ held-stands no_site1 c.args.table.now))))
+          (seen-steps widened edition1 (store_of1 c.args.store) c.args.table.now d.sites d.n c.args.input.now c.args.buffer.now few c.serve1-d.ensures.1.room (request_of1 c.args.request) (store_of1 d.store)
+          (record { answer = told d.answer; buffer = c.serve1-d.new.buffer })
+          (c.serve1-d.ensures.1.steps c.args.table.now refl (ap (take (length c.args.table.now)) c.held1-sites.ensures ∙ held-stands no_site1 c.args.table.now))),
+    )

@@ -1,5 +1,5 @@
 -- `entries1::call_on1` meets its contract: the front of the array was lent to the call, and what stands behind it keeps its content. Assumes nothing.
-use Rattle.std.proofs.Common.{◌≡◌, List, ℕ, length, take, arith, ap, ◌∙◌}
+use Rattle.std.proofs.Common.{◌≡◌, List, length, arith, ap, ◌∙◌}
 use lib.Seq.{length-take-le}
 use Rattle.store.specs.State.{step}
 use Rattle.table.specs.declared.Site1.{Site1}
@@ -12,8 +12,9 @@ returns c =
     let few = c.places_on-few.result in
     let long : length c.args.table ≡ 600 = omega arith in
     let kept : length c.call1-out.new.table ≡ few = omega (arith, c.places_on-few.ensures, c.call1-out.auto.table, length-take-le few c.args.table (omega (arith, c.places_on-few.ensures))) in
-    let laid = lent-first c.args.places few c.args.table c.call1-out.new.table c.places_on-few.ensures long kept in
-    (c.call1-out.ensures.0, 
+    let laid = lent-first c.args.places few c.args.table c.call1-out.new.table c.places_on-few.ensures long kept in (
+      c.call1-out.ensures.0,
       ap (λ (l : List Site1). turned1 c.call1-out.result l c.call1-out.new.buffer) laid.1 ∙ c.call1-out.ensures.1
-      ∙ ap (λ (l : List Site1). step (view1 c.args.store l) (call_of1 c.args.request c.args.input.now c.args.buffer.now)) laid.0,
-      laid.2)
+          ∙ ap (λ (l : List Site1). step (view1 c.args.store l) (call_of1 c.args.request c.args.input.now c.args.buffer.now)) laid.0,
+      laid.2,
+    )

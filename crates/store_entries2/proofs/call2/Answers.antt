@@ -18,9 +18,10 @@ store2-requires c =
 pub returns : goal.returns
 returns c =
     let d = c.serve2-d.result in
-    let few : d.n ≤ length d.sites = omega (arith, c.serve2-d.ensures.1.few, c.serve2-d.type_inv) in
-    (c.serve2-d.ensures.0,
+    let few : d.n ≤ length d.sites = omega (arith, c.serve2-d.ensures.1.few, c.serve2-d.type_inv) in (
+      c.serve2-d.ensures.0,
       rw (c.store2.ensures, c.stored-places.ensures)
-      (stored-steps edition2 c.args.store c.args.table.now d.sites d.n c.args.input.now c.args.buffer.now few c.serve2-d.ensures.1.room c.args.request d.store
-      (record { answer = told d.answer; buffer = c.serve2-d.new.buffer })
-      (c.serve2-d.ensures.1.steps c.args.table.now refl (ap (take (length c.args.table.now)) c.held2-sites.ensures ∙ held-stands no_site c.args.table.now))))
+          (stored-steps edition2 c.args.store c.args.table.now d.sites d.n c.args.input.now c.args.buffer.now few c.serve2-d.ensures.1.room c.args.request d.store
+          (record { answer = told d.answer; buffer = c.serve2-d.new.buffer })
+          (c.serve2-d.ensures.1.steps c.args.table.now refl (ap (take (length c.args.table.now)) c.held2-sites.ensures ∙ held-stands no_site c.args.table.now))),
+    )
