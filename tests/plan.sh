@@ -60,12 +60,12 @@ written_out() {
 tools/list.sh samples/coast.txt >"$work/list"
 list=$(hex <"$work/list")
 written_out "load $list" | cmp - "$work/list" || fail "the list written out is not the one loaded"
-[ "$(written_out "load $list" 'change 0 900' 'add 8 8 60' | crates/plan/out/plan | head -n 2)" = "16 sites, 8 depots, 4 groups
+[ "$(written_out "load $list" 'change 0 900' 'add 8 8 60' | crates/plan/out/plan | sed -n 1,2p)" = "16 sites, 8 depots, 4 groups
 group 1: depots 1 2 3 carry 2655 litres, 885 each" ] || fail "the list written out is not the desk's"
 tools/list.sh -2 samples/aquatic.txt >"$work/list"
 list=$(hex <"$work/list")
 written_out 'table2 10' "load $list" | cmp - "$work/list" || fail "the list of edition 2 written out is not the one loaded"
-[ "$(written_out 'table2 11' "load $list" 'change 1 4294967295' 'add 6 6 65536' | crates/plan/out/plan | head -n 4)" = "11 sites, 7 depots, 6 groups
+[ "$(written_out 'table2 11' "load $list" 'change 1 4294967295' 'add 6 6 65536' | crates/plan/out/plan | sed -n 1,4p)" = "11 sites, 7 depots, 6 groups
 group 1: depot 0 carries 4294967295 litres
 group 2: depot 1 carries 70000 litres
 group 3: depot 6 carries 65536 litres" ] || fail "the list of edition 2 written out is not the desk's"
@@ -73,7 +73,7 @@ group 3: depot 6 carries 65536 litres" ] || fail "the list of edition 2 written 
 tools/list.sh -2 samples/crews.txt >"$work/list"
 list=$(hex <"$work/list")
 written_out 'table2 5' "load $list" | cmp - "$work/list" || fail "the list with a roll written out is not the one loaded"
-[ "$(written_out 'table2 5' "load $list" 'change 0 1600' 'add 3 3 60' | crates/plan/out/plan | head -n 2)" = "5 sites, 4 depots, 3 groups
+[ "$(written_out 'table2 5' "load $list" 'change 0 1600' 'add 3 3 60' | crates/plan/out/plan | sed -n 1,2p)" = "5 sites, 4 depots, 3 groups
 group 1: depots 0 1 carry 1600 litres, 400 per crew" ] || fail "the list with a roll written out is not the desk's"
 # the same with a depot that opens empty, and then with a site for it
 { cat samples/crews.txt && echo 'crews 9 2'; } | tools/list.sh -2 >"$work/list"

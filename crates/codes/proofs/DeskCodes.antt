@@ -1,12 +1,12 @@
 -- A store call's answer as a code and figures, and that of the step to edition 2, at bytes that have the length of a store and at others, and that a length that is answered fits.
 -- Assumes nothing.
 use Prim.Native.Nat.{ℕ, zero, suc, ◌*◌, ◌<◌, ◌^◌}
-use mathlib.Core.Bool.{Bool, true, false, cond, not, ◌&&◌, false≢true}
+use mathlib.Core.Bool.{Bool, true, false, cond, ◌&&◌, false≢true}
 use mathlib.Core.List.{List, []}
 use mathlib.Core.Option.{Option, none, some}
 use mathlib.Core.Path.{◌≡◌, refl, sym, ap, ap₂, ◌∙◌}
 use native.Mathlib.Omega.{arith}
-use borrow.Author.Tests.{eq-eqb, ne_eqb, not-true, not-false}
+use borrow.Author.Tests.{eq-eqb, ne_eqb}
 use lib.Dec.{lit<, lit≤}
 use lib.IntN.{ℤ, pos, neg_ℤ}
 use lib.ListN.{length}
@@ -46,17 +46,10 @@ pub outcome-eq : {r r' d d' : ℤ} {x y : ℕ} → r ≡ r' → d ≡ d'
     → ◌≡◌ {A = Coded} (record { code = r; first = x; second = y; difference = d }) (record { code = r'; first = x; second = y; difference = d' })
 outcome-eq {x = x} {y = y} e f = ap₂ (λ (r d : ℤ). record { code = r; first = x; second = y; difference = d }) e f
 
--- ---- the test of the length, and what it gives a call over lent bytes
+-- ---- the test of the length, and what a call over lent bytes asks
 
 pub no_bytes : Bytes []
 no_bytes i = lit< tt
-
-module _ {b x : Bool} (tested : b ≡ x) where
-  pub is_store : not b ≡ false → x ≡ true
-  is_store h = sym tested ∙ not-false b h
-
-  pub no_store_lem : not b ≡ true → x ≡ false
-  no_store_lem h = sym tested ∙ not-true b h
 
 -- the edition of a store, by its length
 pub second-in : (s : List ℕ) → length s ≡ 4704 → edition2 ≡ edition_in s

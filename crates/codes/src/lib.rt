@@ -1,5 +1,6 @@
 // A store call over lent bytes of either edition, and its answer as the numbers that a C function gives back.
 #![tactic(auto)]
+
 ghost use Rattle.std.specs.Prelude.{◌≡◌, [], ℕ, ◌<◌, ◌^◌};
 ghost use Rattle.store.specs.Calls.{told, wrote};
 ghost use Rattle.store.specs.declared.Request.TheVariants as request;

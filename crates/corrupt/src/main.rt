@@ -1058,16 +1058,16 @@ fn tables(start: Tally, e: u8) -> Tally {
 
 fn main(rt: HostRuntime) -> io::Result<()> {
     let none = tally::nothing();
-    tally::print(&rt, "corrupt desks", desks(desks(none, 1), 2))?;
-    tally::print(&rt, "lent tables", tables(tables(none, 1), 2))?;
+    tally::print(&rt, b"corrupt desks", desks(desks(none, 1), 2))?;
+    tally::print(&rt, b"lent tables", tables(tables(none, 1), 2))?;
     let others = other_edition(other_edition(none, 1, 2), 2, 1);
-    tally::print(&rt, "the other edition", others)?;
+    tally::print(&rt, b"the other edition", others)?;
     let large = large_stored(large_corrupt(large_own(large(none))));
-    tally::print(&rt, "large figures", large)?;
+    tally::print(&rt, b"large figures", large)?;
     let rolls = beside_no_roll(rolled(corrupt_crews(corrupt_rolls(none))));
-    tally::print(&rt, "rolls", rolls)?;
+    tally::print(&rt, b"rolls", rolls)?;
     let histories = empty_history(opened_history(none));
     let broken = corrupt_empty(corrupt_opened(histories));
     let isolated = opened_without(opened_odd(broken));
-    tally::print(&rt, "isolated depots", isolated)
+    tally::print(&rt, b"isolated depots", isolated)
 }

@@ -231,5 +231,5 @@ fn main(rt: HostRuntime) -> io::Result<()> {
     t = isolated_all(isolated_alone_others(isolated_alone(t)));
     t = tallied(t, has_groups(nine_sites(), two_groups(31, 32)));
     t = false_others(false_plans(t));
-    tally::print(&rt, "known plans", t)
+    tally::print(&rt, b"known plans", t)
 }

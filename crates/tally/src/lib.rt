@@ -28,7 +28,8 @@ pub fn tallied(t: Tally, ok: bool) -> Tally {
 }
 
 // Prints `NAME: 3 of 4 right`.
-pub fn print(rt: &impl Print, name: &str, t: Tally) -> io::Result<()> {
+pub fn print(rt: &impl Print, name: &[u8], t: Tally) -> io::Result<()> {
     let Tally { asked, right } = t;
-    println!(rt; "{name}: {right} of {asked} right")
+    rt.write_all(name)?;
+    println!(rt; ": {right} of {asked} right")
 }

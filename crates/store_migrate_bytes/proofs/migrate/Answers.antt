@@ -1,29 +1,26 @@
 -- `store_migrate_bytes::migrate` meets its contract. Assumes nothing.
 use mathlib.Core.Path.{◌≡◌, refl, sym, subst, ◌∙◌}
-use mathlib.Core.Bool.{true}
+use mathlib.Core.Bool.{true, false}
 use mathlib.Core.Option.{none}
-use mathlib.Core.List.{List}
-use Prim.Native.Nat.{ℕ, ◌≤◌, ◌<◌, ◌^◌}
+use Prim.Native.Nat.{◌≤◌, ◌<◌, ◌^◌}
 use native.Mathlib.Omega.{arith}
 use borrow.Author.Rules.{rules}
 use lib.Dec.{lit≤}
-use lib.ListN.{length, get_or, replicate}
+use lib.ListN.{length, replicate}
 use Rattle.records.specs.declared.Edition.{Edition}
 use Rattle.records.specs.Format.{edition1, edition2}
 use Rattle.records.specs.Values.{roll_array}
-use Rattle.held_state.specs.declared.Store.{Store}
-use Rattle.held_state.specs.Held.{State}
+use Rattle.held_state.specs.Held.{State, corrupt}
 use Rattle.held_state.specs.Values.{Stands}
 use Rattle.store.specs.State.{bare}
 use Rattle.store.specs.Widths.{Fitting}
-use Rattle.layout.specs.Layout.{front_size, StoreFits, StoreRead}
-use Rattle.layout_put.specs.Put.{PutStore, PutFront}
+use Rattle.layout.specs.Layout.{front_size, StoreRead}
 use Rattle.layout_put.proofs.Places.{length-zeros, bare-fits}
 use Rattle.lent.specs.Lent.{state_in, is_of}
 use Rattle.lent.proofs.Served.{sized-is, places-fit, Listed, stands}
 use Rattle.store_migrate_bytes.proofs.Migrated.{Old, migrate-corrupt, migrate-refuses, migrate-few, migrate-room, written, new-put, migrate-bare, migrate-plan}
 use Rattle.store_migrate_bytes.proofs.migrate.Goals as goal
-use Rattle.store_migrate_bytes.proofs.migrate.Goals.{After-edition1-e, After-migrate_row-verdict, After-put_roll, After-summary-known}
+use Rattle.store_migrate_bytes.proofs.migrate.Goals.{After-edition1-e, After-is_corrupt, After-migrate_row-verdict, After-put_roll, After-summary-known}
 
 fitting : (c : After-edition1-e) → Fitting c.edition1-e.result
 fitting c = subst Fitting (sym c.edition1-e.ensures) (lit≤ tt, lit≤ tt)
@@ -60,18 +57,21 @@ standing c =
     subst (λ (e : Edition). Stands (state_in e a.store.now a.table.now) c.list_in-list.result c.summary-known.result p.new.groups p.new.shares)
     f.ensures (stands f.result a.store.now a.table.now p.ensures c.list_in-list.ensures k.0 k.1 k.2)
 
+-- the answer of row 0 is the state's
+told : (c : After-is_corrupt) → corrupt (state (goal.at.After-is_corrupt c).After-summary-known) ≡ c.is_corrupt.result
+told c = let k = (goal.at.After-is_corrupt c).After-summary-known in sym (c.is_corrupt.ensures (state k) (standing k))
+
 pub returns-then-is_corrupt : goal.returns-then-is_corrupt
 returns-then-is_corrupt c =
-    let k = (goal.at.returns-then-is_corrupt c).After-summary-known in
     let a = c.args in
-    migrate-corrupt a.store.now a.table.now a.store2.now a.table2.now (sym (c.is_corrupt.ensures (state k) (standing k)) ∙ c.if-is_corrupt.true)
+    migrate-corrupt a.store.now a.table.now a.store2.now a.table2.now (told (goal.at.returns-then-is_corrupt c).After-is_corrupt ∙ c.if-is_corrupt.true)
 
-old : (c : After-migrate_row-verdict)
+-- what is read where row 0 has passed
+old : (c : After-migrate_row-verdict) → c.is_corrupt.result ≡ false
     → let a = c.args in
     let p = c.store_in-h in
     Old a.store.now a.table.now a.table2.now p.result p.new.groups p.new.shares c.list_in-list.result c.migrate_row-verdict.result
-old c =
-    let k = (goal.at.After-migrate_row-verdict c).After-summary-known in
+old c sound =
     let a = c.args in
     let p = c.store_in-h in
     let f = c.edition1-e in
@@ -81,23 +81,22 @@ old c =
           subst (λ (e : Edition). StoreRead e.share e.roll a.store.now (replicate 64 0) (replicate 512 0) p.result p.new.groups p.new.shares) f.ensures
           p.ensures;
       listed = subst (λ (e : Edition). Listed e a.table.now p.result.count p.result.roll l.result) f.ensures l.ensures;
-      sound = sym (c.is_corrupt.ensures (state k) (standing k)) ∙ c.if-is_corrupt.false;
+      sound = told (goal.at.After-migrate_row-verdict c).After-is_corrupt ∙ sound;
       row = c.migrate_row-verdict.ensures;
     }
 
 pub returns-in-Refused : goal.returns-in-Refused
 returns-in-Refused c =
-    let v = (goal.at.returns-in-Refused c).After-migrate_row-verdict in
+    let o = old (goal.at.returns-in-Refused c).After-migrate_row-verdict c.if-is_corrupt.false in
     let a = c.args in
-    migrate-refuses a.store.now a.table.now a.store2.now a.table2.now (old v) c.in-Refused.is
+    migrate-refuses a.store.now a.table.now a.store2.now a.table2.now o c.in-Refused.is
 
 pub put_sites-requires : goal.put_sites-requires
 put_sites-requires c =
-    let v = (goal.at.put_sites-requires c).After-migrate_row-verdict in
+    let o = old (goal.at.put_sites-requires c).After-migrate_row-verdict c.if-is_corrupt.false in
     let a = c.args in (
-      migrate-few a.store.now a.table.now a.store2.now a.table2.now (old v),
-      places-fit edition2.litres _ a.table2.now
-          (migrate-room a.store.now a.table.now a.store2.now a.table2.now (old v) c.in_default.is),
+      migrate-few a.store.now a.table.now a.store2.now a.table2.now o,
+      places-fit edition2.litres _ a.table2.now (migrate-room a.store.now a.table.now a.store2.now a.table2.now o c.in_default.is),
     )
 
 pub put_roll-requires : goal.put_roll-requires
@@ -106,13 +105,6 @@ put_roll-requires c = sized-is edition2 c.args.store2.now c.requires.1
 -- where the roll is written there is room for a front
 room : (c : After-put_roll) → front_size edition2.share ≤ length c.put_roll.new.out
 room c = omega (arith, c.put_roll.auto.out, sized-is edition2 c.args.store2.now c.requires.1)
-
--- a store without a roll whose front is written then
-new-store : (c : After-put_roll) (store : Store) {last : List ℕ} → length store.groups ≡ 64 → length store.shares ≡ 512
-    → (((i : ℕ) → get_or store.shares i 0 < 256 ^ edition2.share) → StoreFits edition2.share store) → store.roll ≡ roll_array none
-    → PutFront edition2.share store c.put_roll.new.out last → PutStore edition2.share edition2.roll store last
-new-store c store many each fit unrolled =
-    new-put c.args.store2.now store many each fit c.requires.1 unrolled c.no_roll-none.ensures c.put_roll.ensures c.put_roll.auto.out
 
 pub put_plan-requires : goal.put_plan-requires
 put_plan-requires c =
@@ -125,25 +117,25 @@ put_bare-requires c = room (goal.at.put_bare-requires c).After-put_roll
 -- where a plan is held
 pub returns-then-h : goal.returns-then-h
 returns-then-h c =
-    let o = (goal.at.returns-then-h c).After-put_roll in
-    let v = (goal.at.returns-then-h c).After-migrate_row-verdict in
+    let o = old (goal.at.returns-then-h c).After-migrate_row-verdict c.if-is_corrupt.false in
     let k = c.store_in-h.auto in
     let a = c.args in
-    let store = written a.store.now a.table.now a.store2.now a.table2.now (old v) c.in_default.is c.if-h.true in
+    let store = written a.store.now a.table.now a.store2.now a.table2.now o c.in_default.is c.if-h.true in
     let wrote = c.put_plan.ensures in
-    let put = new-store o store k.groups k.shares (wrote.1 (roll_array none)) refl (wrote.0 (roll_array none)) in
-    migrate-plan a.store.now a.table.now a.store2.now a.table2.now (old v) c.in_default.is c.if-h.true
+    let put = new-put a.store2.now store k.groups k.shares (wrote.1 (roll_array none)) c.requires.1 refl
+    c.no_roll-none.ensures c.put_roll.ensures c.put_roll.auto.out (wrote.0 (roll_array none)) in
+    migrate-plan a.store.now a.table.now a.store2.now a.table2.now o c.in_default.is c.if-h.true
     (λ i. (c.type_inv.store i).fits) (λ i. (c.type_inv.table i).fits) (λ i. (c.slice_known-2-1.given i).fits) put
     (c.put_plan.auto.out ∙ c.put_roll.auto.out) c.put_sites.ensures
 
 -- where none is
 pub returns-else-h : goal.returns-else-h
 returns-else-h c =
-    let o = (goal.at.returns-else-h c).After-put_roll in
-    let v = (goal.at.returns-else-h c).After-migrate_row-verdict in
+    let o = old (goal.at.returns-else-h c).After-migrate_row-verdict c.if-is_corrupt.false in
     let n = c.store_in-h.result.count in
     let a = c.args in
-    let few : n < 256 ^ 8 = omega (arith, migrate-few a.store.now a.table.now a.store2.now a.table2.now (old v)) in
-    let put = new-store o (bare n (roll_array none)) (length-zeros 64) (length-zeros 512) (bare-fits edition2.share n (roll_array none) few) refl (c.put_bare.ensures (roll_array none)) in
-    migrate-bare a.store.now a.table.now a.store2.now a.table2.now (old v) c.in_default.is c.if-h.false
+    let few : n < 256 ^ 8 = omega (arith, migrate-few a.store.now a.table.now a.store2.now a.table2.now o) in
+    let put = new-put a.store2.now (bare n (roll_array none)) (length-zeros 64) (length-zeros 512) (bare-fits edition2.share n (roll_array none) few) c.requires.1 refl
+    c.no_roll-none.ensures c.put_roll.ensures c.put_roll.auto.out (c.put_bare.ensures (roll_array none)) in
+    migrate-bare a.store.now a.table.now a.store2.now a.table2.now o c.in_default.is c.if-h.false
     (λ i. (c.type_inv.table i).fits) (λ i. (c.slice_known-2-1.given i).fits) put (c.put_bare.auto.out ∙ c.put_roll.auto.out) c.put_sites.ensures

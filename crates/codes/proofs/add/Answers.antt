@@ -1,0 +1,17 @@
+-- `codes::add` meets its contract. Assumes nothing.
+use mathlib.Core.List.{[]}
+use mathlib.Core.Path.{sym, ap, ◌∙◌}
+use native.Mathlib.Omega.{arith}
+use Rattle.codes.specs.declared.Coded.{Coded}
+use Rattle.signed.proofs.Signed.{read_back}
+use Rattle.codes.proofs.DeskCodes.{no_bytes, did-not, did}
+use Rattle.codes.proofs.add.Goals as goal
+
+pub returns-then-not-is_store : goal.returns-then-not-is_store
+returns-then-not-is_store c = did-not (sym c.is_store.ensures ∙ c.if-not-is_store.true) no_bytes
+
+pub add-a-requires : goal.add-a-requires
+add-a-requires c = (c.requires.0, sym c.is_store.ensures ∙ c.if-not-is_store.false, c.requires.1)
+
+pub returns : goal.returns
+returns c = did (sym c.is_store.ensures ∙ c.if-not-is_store.false) (c.add-a.ensures [] [] no_bytes) (read_back (omega arith) ∙ ap (λ (o : Coded). o.code) c.outcome.ensures)

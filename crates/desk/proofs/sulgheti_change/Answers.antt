@@ -1,0 +1,11 @@
+-- `desk::sulgheti_change` meets its contract. Assumes nothing.
+use native.Mathlib.Omega.{arith}
+use Rattle.signed.proofs.Signed.{read_back}
+use Rattle.codes.proofs.DeskCodes.{fitting1}
+use Rattle.desk.proofs.sulgheti_change.Goals as goal
+
+pub change-requires : goal.change-requires
+change-requires c = (fitting1 c.edition1.ensures, rw c.edition1.ensures (omega arith))
+
+pub returns : goal.returns
+returns c = rw (read_back c.change.type_inv) (rw c.edition1.ensures at c.change.ensures)

@@ -1,0 +1,9 @@
+-- `desk::sulgheti_written` meets its contract. Assumes nothing.
+use Rattle.signed.proofs.Signed.{read_back}
+use Rattle.desk.proofs.sulgheti_written.Goals as goal
+
+pub wrote_out-requires : goal.wrote_out-requires
+wrote_out-requires c = (c.edition_in-e.ensures.1, tt)
+
+pub returns : goal.returns
+returns c = rw (read_back c.wrote_out.type_inv) (rw c.edition_in-e.ensures.0 at c.wrote_out.ensures)
