@@ -1,4 +1,4 @@
--- `layout::no_store_lem` meets its contract. Assumes nothing.
+-- `layout::no_store` meets its contract. Assumes nothing.
 use mathlib.Core.Bool.{false}
 use mathlib.Core.Path.{ap}
 use Rattle.records.specs.declared.RollArray.{RollArray}
