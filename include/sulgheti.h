@@ -84,7 +84,8 @@
  * of the desk (load, change, change2, add, add2, propose, migrate). Measured at 512 sites and rounded up; the
  * frames have fixed sizes, and nothing recurses. Under lazy binding the program's first call of memcpy or memset
  * may take more, since the dynamic linker looks the function up on the same stack: some 3 KB where it was
- * measured. The stated figures have room for that, 3,600 bytes or more. tests/c/stack_t.c makes every call on so
+ * measured. The stated figures have room for that: 3,600 bytes or more for check, make, upgrade_plan and
+ * downgrade_plan, 8,000 or more for each other call. tests/c/stack_t.c makes every call on so
  * much and no more, and prints what each wrote. A thread with 128 KB of stack can make every call. */
 #define SULGHETI_STACK_CHECK 49152
 #define SULGHETI_STACK_MAKE 73728
