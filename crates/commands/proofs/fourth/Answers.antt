@@ -18,5 +18,5 @@ returns-then-e-eq0 c =
 pub returns : goal.returns
 returns c =
     let others = c.rest-others.result.now in
-    let cut = words-some c.args.text.now c.word-d.result.now c.word-d.ensures others c.rest-others.ensures c.if-d-eq0.false in
-    rw (cut, words-some others c.word-e.result.now c.word-e.ensures (rest_of others) refl c.if-e-eq0.false) refl
+    let parted = words-some c.args.text.now c.word-d.result.now c.word-d.ensures others c.rest-others.ensures c.if-d-eq0.false in
+    rw (parted, words-some others c.word-e.result.now c.word-e.ensures (rest_of others) refl c.if-e-eq0.false) refl
