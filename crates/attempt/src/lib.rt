@@ -2,7 +2,7 @@
 // A site i has two arcs, i at its first depot and 512 + i at its second: `ends` has their depots, 64 where there is no site, `share` what each has.
 #![tactic(auto)]
 
-ghost use Rattle.std.specs.Prelude.{◌≡◌, cond, ◌&&◌, ◌||◌, ℕ, ◌+◌, ◌*◌, ◌<◌, ◌^◌, length};
+ghost use Rattle.std.specs.Prelude.{◌≡◌, ◌&&◌, ◌||◌, ℕ, ◌+◌, ◌*◌, ◌<◌, ◌^◌, length};
 ghost use Rattle.sets.specs.Set.{has};
 ghost use Rattle.residual.specs.Array.{at, total_load};
 ghost use Rattle.attempt.specs.Lay.{Listed, SiteLaid, Ready, Laying, Aiming};
@@ -16,37 +16,12 @@ fn contains(set: u64, d: usize) -> bool
     sets::contains(set, d as u8)
 }
 
-fn both(a: bool, b: bool) -> bool
-    ensures { result ≡ (a && b) }
-{
-    if a {
-        return b;
-    }
-    false
-}
-
 // Are depots x and y both in the set?
 fn covers(set: u64, x: usize, y: usize) -> bool
     requires { (x < 64) × (y < 64) }
     ensures { result ≡ (has set x && has set y) }
 {
-    both(contains(set, x), contains(set, y))
-}
-
-// Does a set carry a site, by whether the site's depots x and y are in the set and in what is grouped?
-fn carried(sx: bool, sy: bool, bx: bool, by: bool) -> bool
-    ensures { result ≡ (((sx || bx) && (sy || by)) && (sx || sy)) }
-{
-    if sx {
-        if sy {
-            return true;
-        }
-        return by;
-    }
-    if sy {
-        return bx;
-    }
-    false
+    contains(set, x) && contains(set, y)
 }
 
 // Does the set carry a site of depots x and y, given what is grouped before?
@@ -54,12 +29,9 @@ fn carries(set: u64, before: u64, x: usize, y: usize) -> bool
     requires { (x < 64) × (y < 64) }
     ensures { result ≡ (((has set x || has before x) && (has set y || has before y)) && (has set x || has set y)) }
 {
-    carried(
-        contains(set, x),
-        contains(set, y),
-        contains(before, x),
-        contains(before, y),
-    )
+    let (sx, sy) = (contains(set, x), contains(set, y));
+    let (bx, by) = (contains(before, x), contains(before, y));
+    (sx || bx) && (sy || by) && (sx || sy)
 }
 
 // Lays site i whole on one of its depots, if the set carries it. The litres that it brings.
@@ -104,22 +76,11 @@ pub fn lay(
     requires laying { Laying ends.now litres.now (has set) (has before) q share.old 0 share.old load.old 0 }
     ensures { Laying ends.now litres.now (has set) (has before) q share.old result share.new load.new 512 }
 {
-    let mut total: u64 = 0;
-    let mut i: usize = 0;
-    while i < 512 {
-        total = total + lay_site(ends, litres, set, before, q, i, share, load);
-        i += 1;
+    let mut total = 0;
+    for i in 0..512 {
+        total += lay_site(ends, litres, set, before, q, i, share, load);
     }
     total
-}
-
-fn mark(t: bool) -> usize
-    ensures { result ≡ cond t 64 65 }
-{
-    if t {
-        return 64;
-    }
-    65
 }
 
 // The targets and ranks for pushes within the set: each of its depots is to have w for each of its crews.
@@ -128,12 +89,10 @@ pub fn aim(crews: &[u64], set: u64, w: u64, target: &mut [u64], rank: &mut [usiz
     requires aiming { Aiming crews.now set w target.old rank.old 0 }
     ensures { Aiming crews.now set w target.new rank.new 64 }
 {
-    let mut d: usize = 0;
-    while d < 64 {
+    for d in 0..64 {
         let t = contains(set, d);
         target[d] = lay_on::part(t, w * crews[d]);
-        rank[d] = mark(t);
-        d += 1;
+        rank[d] = if t { 64 } else { 65 };
     }
 }
 

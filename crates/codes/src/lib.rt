@@ -2,6 +2,7 @@
 #![tactic(auto)]
 
 ghost use Rattle.std.specs.Prelude.{◌≡◌, [], ℕ, ◌<◌, ◌^◌};
+ghost use Rattle.records.specs.Refusals.{number};
 ghost use Rattle.store.specs.Calls.{told, wrote};
 ghost use Rattle.store.specs.declared.Request.TheVariants as request;
 ghost use Rattle.store.specs.Trace.{ReadsOnly};
@@ -10,7 +11,7 @@ ghost use Rattle.lent.specs.Lent.{is_of};
 ghost use Rattle.codes.specs.Codes.{edition_in, row_code, length_code, outcome_of, Did, Figures, Differs, WroteOut, FreshCode, MigrateCode};
 
 use density::Site;
-use records::{Edition, edition1, edition2};
+use records::{Edition, Refusal, edition1, edition2};
 use signed::{length, refused};
 use store::{Answer, Request};
 
@@ -23,82 +24,73 @@ pub struct Coded {
     pub difference: i64,
 }
 
+// What stands for row 0, whose number would be success.
+const ROW_0: i64 = -256;
+
+// What is answered where the bytes are no store of the edition.
+const NO_STORE: i64 = -257;
+
 // A row's number with a minus sign; row 0 is -256.
-fn row(n: u8) -> i64
-    ensures { result ≡ row_code n }
+fn row(refusal: Refusal) -> i64
+    ensures { result ≡ row_code (number refusal) }
 {
+    let n = refusal.number();
     if n == 0 {
-        return -256;
+        return ROW_0;
     }
     refused(n)
 }
 
 // An answer as a code and figures; figures that it does not have stay as they were.
-pub fn outcome(a: Answer, first: u64, second: u64, difference: i64) -> Coded
-    ensures { result ≡ outcome_of (told a) first second difference }
+pub fn outcome(answer: Result<Answer, Refusal>, first: u64, second: u64, difference: i64) -> Coded
+    ensures { result ≡ outcome_of (told answer) first second difference }
 {
-    match a {
-        Answer::Refused(n) => {
-            let code = row(n);
-            Coded {
-                code,
-                first,
-                second,
-                difference,
-            }
-        }
-        Answer::Done => Coded {
-            code: 0,
-            first,
-            second,
-            difference,
+    let kept = Coded {
+        code: 0,
+        first,
+        second,
+        difference,
+    };
+    match answer {
+        Err(refusal) => Coded {
+            code: row(refusal),
+            ..kept
         },
-        Answer::Share(s, w) => Coded {
-            code: 0,
+        Ok(Answer::Done | Answer::Length(_)) => kept,
+        Ok(Answer::Share(s, w)) => Coded {
             first: s,
             second: w,
-            difference,
+            ..kept
         },
-        Answer::Depot(w, q) => Coded {
-            code: 0,
+        Ok(Answer::Depot(w, q)) => Coded {
             first: w,
             second: q,
-            difference,
+            ..kept
         },
-        Answer::Difference(d, q) => Coded {
-            code: 0,
-            first,
+        Ok(Answer::Difference(d, q)) => Coded {
             second: q,
             difference: d,
+            ..kept
         },
-        Answer::Length(_) => Coded {
-            code: 0,
-            first,
-            second,
-            difference,
-        },
-        Answer::Reached(x) => Coded {
-            code: 0,
-            first: x,
-            second,
-            difference,
-        },
+        Ok(Answer::Reached(x)) => Coded { first: x, ..kept },
     }
 }
 
 // The length written, or the row.
-fn written(a: Answer) -> i64
-    requires { (n : ℕ) → told a ≡ wrote n → n < 2 ^ 63 }
-    ensures { result ≡ length_code (told a) }
+fn written(answer: Result<Answer, Refusal>) -> i64
+    requires { (n : ℕ) → told answer ≡ wrote n → n < 2 ^ 63 }
+    ensures { result ≡ length_code (told answer) }
 {
-    match a {
-        Answer::Refused(n) => row(n),
-        Answer::Done => 0,
-        Answer::Share(_, _) => 0,
-        Answer::Depot(_, _) => 0,
-        Answer::Difference(_, _) => 0,
-        Answer::Length(n) => length(n),
-        Answer::Reached(_) => 0,
+    match answer {
+        Err(refusal) => row(refusal),
+        Ok(Answer::Length(n)) => length(n),
+        Ok(
+            Answer::Done
+            | Answer::Share(_, _)
+            | Answer::Depot(_, _)
+            | Answer::Difference(_, _)
+            | Answer::Reached(_),
+        ) => 0,
     }
 }
 
@@ -126,13 +118,15 @@ fn is_store(e: Edition, store: &[u8]) -> bool
 
 // Each function below answers -257 where the bytes are no store of the edition.
 
+// Kept: one for each call, since each has the contract of its call.
+
 // A fresh store: 0.
 pub fn fresh(e: Edition, store: &mut [u8]) -> i64
     requires { Fitting e }
     ensures { FreshCode e store.old result store.new }
 {
     if !is_store(e, store) {
-        return -257;
+        return NO_STORE;
     }
     lent::fresh(e, store);
     0
@@ -144,10 +138,9 @@ pub fn load(e: Edition, store: &mut [u8], table: &mut [u8], list: &[u8]) -> i64
     ensures { Did e store.old table.old (record { request = request.Load; input = list.now; buffer = [] }) result store.new table.new }
 {
     if !is_store(e, store) {
-        return -257;
+        return NO_STORE;
     }
-    let a = lent::load(e, store, table, list);
-    outcome(a, 0, 0, 0).code
+    outcome(lent::load(e, store, table, list), 0, 0, 0).code
 }
 
 // Change a site's litres: 0, or the row.
@@ -156,10 +149,9 @@ pub fn change(e: Edition, store: &mut [u8], table: &mut [u8], site: usize, litre
     ensures { Did e store.old table.old (record { request = request.Change site litres; input = []; buffer = [] }) result store.new table.new }
 {
     if !is_store(e, store) {
-        return -257;
+        return NO_STORE;
     }
-    let a = lent::change(e, store, table, site, litres);
-    outcome(a, 0, 0, 0).code
+    outcome(lent::change(e, store, table, site, litres), 0, 0, 0).code
 }
 
 // Add a site at the end: 0, or the row.
@@ -168,10 +160,9 @@ pub fn add(e: Edition, store: &mut [u8], table: &mut [u8], x: Site) -> i64
     ensures { Did e store.old table.old (record { request = request.Add x.first x.second x.litres; input = []; buffer = [] }) result store.new table.new }
 {
     if !is_store(e, store) {
-        return -257;
+        return NO_STORE;
     }
-    let a = lent::add(e, store, table, x);
-    outcome(a, 0, 0, 0).code
+    outcome(lent::add(e, store, table, x), 0, 0, 0).code
 }
 
 // Propose a plan: 0 where it passes, or the row. The table is only read.
@@ -180,10 +171,9 @@ pub fn propose(e: Edition, store: &mut [u8], table: &[u8], plan: &[u8]) -> i64
     ensures { Did e store.old table.now (record { request = request.Propose; input = plan.now; buffer = [] }) result store.new table.now }
 {
     if !is_store(e, store) {
-        return -257;
+        return NO_STORE;
     }
-    let a = lent::propose(e, store, table, plan);
-    outcome(a, 0, 0, 0).code
+    outcome(lent::propose(e, store, table, plan), 0, 0, 0).code
 }
 
 // A call that only reads, for two figures: 0 and they are written, or the row.
@@ -199,13 +189,11 @@ pub fn figures(
     ensures { Figures e store.now table.now (record { request = request; input = []; buffer = [] }) result first.old second.old first.new second.new }
 {
     if !is_store(e, store) {
-        return -257;
+        return NO_STORE;
     }
     let mut none = [0u8; 0];
     let a = lent::look(e, store, table, request, &mut none);
-    let x = *first;
-    let y = *second;
-    let o = outcome(a, x, y, 0);
+    let o = outcome(a, *first, *second, 0);
     *first = o.first;
     *second = o.second;
     o.code
@@ -225,15 +213,12 @@ pub fn difference(
     ensures { Differs e store.now table.now (record { request = request.Difference a b; input = []; buffer = [] }) result difference.old divisor.old difference.new divisor.new }
 {
     if !is_store(e, store) {
-        return -257;
+        return NO_STORE;
     }
     let mut none = [0u8; 0];
     let answer = lent::look(e, store, table, Request::Difference(a, b), &mut none);
-    let x = *difference;
-    let y = *divisor;
-    let o = outcome(answer, 0, y, x);
-    let d = o.difference;
-    *difference = d;
+    let o = outcome(answer, 0, *divisor, *difference);
+    *difference = o.difference;
     *divisor = o.second;
     o.code
 }
@@ -244,10 +229,9 @@ pub fn wrote_out(e: Edition, store: &[u8], table: &[u8], request: Request, buffe
     ensures { WroteOut e store.now table.now (record { request = request; input = []; buffer = buffer.old }) result buffer.new }
 {
     if !is_store(e, store) {
-        return -257;
+        return NO_STORE;
     }
-    let a = lent::look(e, store, table, request, buffer);
-    written(a)
+    written(lent::look(e, store, table, request, buffer))
 }
 
 // The step to edition 2: 0, or the row; -257 where the old store is none of edition 1 or the new one none of edition 2. The old store and its table are only read.
@@ -255,10 +239,10 @@ pub fn migrate(store: &[u8], table: &[u8], store2: &mut [u8], table2: &mut [u8])
     ensures { MigrateCode store.now table.now store2.old table2.old result store2.new table2.new }
 {
     if !is_store(edition1(), store) {
-        return -257;
+        return NO_STORE;
     }
     if !is_store(edition2(), store2) {
-        return -257;
+        return NO_STORE;
     }
     let a = store_migrate_bytes::migrate(store, table, store2, table2);
     outcome(a, 0, 0, 0).code

@@ -1,45 +1,21 @@
--- Laws of commands, as the functions meet them: a number, a direction, a comment; and the bounds of a command's numbers.
+-- The bounds of a command's numbers.
 -- Assumes nothing.
 use Prim.Native.Nat.{ℕ, ◌≤◌}
-use mathlib.Core.Path.{◌≡◌, refl, sym, ap, ◌∙◌}
+use mathlib.Core.Path.{◌≡◌, refl, sym, ◌∙◌}
 use mathlib.Core.Bool.{Bool, true, false, cond}
 use mathlib.Core.List.{List, [], ◌∷◌}
 use native.Mathlib.Omega.{arith}
-use lib.ListN.{length, get_or}
-use borrow.Author.Tests.{eq-eqb, ne_eqb}
 use Rattle.script.proofs.Numbers.{of-within}
 use Rattle.script.specs.Decimal.{number_of}
-use Rattle.script.specs.declared.Number.{Number}
-use Rattle.script.specs.declared.Number.TheVariants as number
+use Rattle.std.specs.Prelude.{Option, Some, None}
 use Rattle.script.specs.Hex.{is_bytes}
 use Rattle.script.specs.Words.{words_of}
 use Rattle.script.specs.Ascii.{is}
 use Rattle.store.specs.declared.Request.TheVariants as request
 use Rattle.commands.specs.Commands.{of_bytes, of_number, of_depot, of_litres, of_size, reads, one_word, direction_of, of_direction, two_words, three_words, four_words, call_of, is_comment, of_words, command_of, Within}
 use Rattle.commands.specs.declared.Direction.{Direction}
-use Rattle.commands.specs.declared.Direction.TheVariants as direction
 use Rattle.commands.specs.declared.Command.{Command}
 use Rattle.commands.specs.declared.Command.TheVariants.{Bad, Table, Call, Written, Make, ListWritten, Table2, Convert, ConvertPlan, Migrate}
-
--- r is what was read
-module _ {r : Number} where
-  pub number_is : {v x : Number} (f : ℕ → Command) → r ≡ v → r ≡ x → of_number v f ≡ of_number x f
-  number_is f e g = ap (λ (y : Number). of_number y f) (sym e ∙ g)
-
-  pub number-within : (most n : ℕ) (text : List ℕ) → r ≡ number.Value n → r ≡ number_of most text → n ≤ most
-  number-within most n text e g = of-within most n text (sym g ∙ e)
-
--- r is the direction that was read
-pub direction-is : {r v x : Direction} (f : Bool → Command) → r ≡ v → r ≡ x → of_direction v f ≡ of_direction x f
-direction-is f e g = ap (λ (y : Direction). of_direction y f) (sym e ∙ g)
-
-pub comment-yes : (w : List ℕ) → (length w ≡ 0 → ⊥) → get_or w 0 0 ≡ 35 → is_comment w ≡ true
-comment-yes [] h e = absurd (h refl)
-comment-yes (b ∷ w) h e = eq-eqb b 35 e
-
-pub comment-no : (w : List ℕ) → (length w ≡ 0 → ⊥) → (get_or w 0 0 ≡ 35 → ⊥) → is_comment w ≡ false
-comment-no [] h e = absurd (h refl)
-comment-no (b ∷ w) h e = ne_eqb b 35 e
 
 -- `Within`, of a command that is not computed
 data Fine (most : ℕ) (x : Command) : Type 0 where
@@ -56,16 +32,16 @@ module _ {most : ℕ} where
   bad : Fine most Bad
   bad = fine tt
 
-  value : (x : Number) (f : ℕ → Command) (top : ℕ) (text : List ℕ) → number_of top text ≡ x → ((n : ℕ) → n ≤ top → Fine most (f n)) → Fine most (of_number x f)
-  value (number.Value n) f top text e h = h n (of-within top n text e)
-  value number.Bad f top text e h = bad
+  value : (x : Option ℕ) (f : ℕ → Command) (top : ℕ) (text : List ℕ) → number_of top text ≡ x → ((n : ℕ) → n ≤ top → Fine most (f n)) → Fine most (of_number x f)
+  value (Some n) f top text e h = h n (of-within top n text e)
+  value None f top text e h = bad
 
   within-number : (f : ℕ → Command) (top : ℕ) (text : List ℕ) → ((n : ℕ) → n ≤ top → Fine most (f n)) → Fine most (of_number (number_of top text) f)
   within-number f top text h = value (number_of top text) f top text refl h
 
-  within-direction : (x : Direction) (f : Bool → Command) → ((back : Bool) → Fine most (f back)) → Fine most (of_direction x f)
-  within-direction (direction.Back back) f h = h back
-  within-direction direction.None f h = bad
+  within-direction : (x : Option Direction) (f : Direction → Command) → ((direction : Direction) → Fine most (f direction)) → Fine most (of_direction x f)
+  within-direction (Some direction) f h = h direction
+  within-direction None f h = bad
 
 within-reads : (most : ℕ) (name a : List ℕ) → Fine most (reads name a)
 unfolding reads
@@ -95,8 +71,8 @@ within-two most name a b =
     (either (is name "difference") (within-number (λ d. of_depot b (λ e. Call (request.Difference d e))) _ a (λ d h. within-number (λ e. Call (request.Difference d e)) _ b (λ e g. fine tt)))
     (either (is name "check") (either (is_bytes a) (either (is_bytes b) (fine tt) bad) bad)
     (either (is name "make") (either (is_bytes a) (within-number (λ n. Make n) _ b (λ n h. fine h)) bad)
-    (within-direction (direction_of name) (λ back. of_bytes a (of_size b (λ n. Convert back n)))
-    (λ back. either (is_bytes a) (within-number (λ n. Convert back n) _ b (λ n h. fine h)) bad)))))
+    (within-direction (direction_of name) (λ direction. of_bytes a (of_size b (λ n. Convert direction n)))
+    (λ direction. either (is_bytes a) (within-number (λ n. Convert direction n) _ b (λ n h. fine h)) bad)))))
 
 within-three : (most : ℕ) (name a b c : List ℕ) → Fine most (three_words most name a b c)
 unfolding three_words
@@ -110,10 +86,10 @@ within-three most name a b c =
 within-four : (most : ℕ) (name a b c d : List ℕ) → Fine most (four_words name a b c d)
 unfolding four_words
 within-four most name a b c d =
-    within-direction (direction_of name) (λ back. of_bytes a (of_bytes b (of_size c (λ n. of_size d (λ m. ConvertPlan back n m)))))
-    (λ back. either (is_bytes a) (either (is_bytes b)
-    (within-number (λ n. of_size d (λ m. ConvertPlan back n m)) _ c
-    (λ n h. within-number (λ m. ConvertPlan back n m) _ d (λ m g. fine (h, g)))) bad) bad)
+    within-direction (direction_of name) (λ direction. of_bytes a (of_bytes b (of_size c (λ n. of_size d (λ m. ConvertPlan direction n m)))))
+    (λ direction. either (is_bytes a) (either (is_bytes b)
+    (within-number (λ n. of_size d (λ m. ConvertPlan direction n m)) _ c
+    (λ n h. within-number (λ m. ConvertPlan direction n m) _ d (λ m g. fine (h, g)))) bad) bad)
 
 within-call : (most : ℕ) (name : List ℕ) (words : List (List ℕ)) → Fine most (call_of most name words)
 within-call most name [] = bad

@@ -1,15 +1,13 @@
 -- The commands of a script's lines.
-use Rattle.std.specs.Prelude.{ℕ, ◌+◌, ◌≤◌, Bool, true, false, cond, List, [], ◌∷◌, eqb}
+use Rattle.std.specs.Prelude.{ℕ, ◌+◌, ◌≤◌, Bool, true, false, cond, List, [], ◌∷◌, Option, Some, None, eqb}
 use Rattle.script.specs.Hex.{is_bytes}
 use Rattle.script.specs.Decimal.{number_of}
 use Rattle.script.specs.Words.{words_of}
 use Rattle.script.specs.Ascii.{is}
-use Rattle.script.specs.declared.Number.{Number}
-use Rattle.script.specs.declared.Number.TheVariants as number
 use Rattle.store.specs.declared.Request.TheVariants as request
 use Rattle.store.specs.Widths.{Named}
 use Rattle.commands.specs.declared.Direction.{Direction}
-use Rattle.commands.specs.declared.Direction.TheVariants as direction
+use Rattle.commands.specs.declared.Direction.TheVariants.{Upgrade, Downgrade}
 use Rattle.commands.specs.declared.Command.{Command}
 use Rattle.commands.specs.declared.Command.TheVariants.{Blank, Bad, Table, Call, Written, Check, Make, ListWritten, Table2, Convert, ConvertPlan, Migrate}
 
@@ -18,9 +16,9 @@ abbrev pub of_bytes : List ℕ → Command → Command
 of_bytes word c = cond (is_bytes word) c Bad
 
 -- the command of a number
-abbrev pub of_number : Number → (ℕ → Command) → Command
-of_number (number.Value n) f = f n
-of_number number.Bad f = Bad
+abbrev pub of_number : Option ℕ → (ℕ → Command) → Command
+of_number (Some n) f = f n
+of_number None f = Bad
 
 -- a site is at most 2^64 - 1, a depot at most 255, a threshold (document 02's mark) at most 4,294,967,295; litres are at most the largest of the store's edition
 abbrev pub of_site : List ℕ → (ℕ → Command) → Command
@@ -72,14 +70,19 @@ one_word name a =
     (cond (is name "migrate") (of_places a (λ n. Migrate n))
     (reads name a)))))
 
--- `upgrade` goes up and `downgrade` back (true); any other name has no direction
-unfoldable pub direction_of : List ℕ → Direction
-direction_of name = cond (is name "upgrade") (direction.Back false) (cond (is name "downgrade") (direction.Back true) direction.None)
+-- the directions by their names; any other name has none
+unfoldable pub direction_of : List ℕ → Option Direction
+direction_of name = cond (is name "upgrade") (Some Upgrade) (cond (is name "downgrade") (Some Downgrade) None)
 
 -- the command of a direction
-abbrev pub of_direction : Direction → (Bool → Command) → Command
-of_direction (direction.Back back) f = f back
-of_direction direction.None f = Bad
+abbrev pub of_direction : Option Direction → (Direction → Command) → Command
+of_direction (Some direction) f = f direction
+of_direction None f = Bad
+
+-- does the direction go back?
+abbrev pub is_back : Direction → Bool
+is_back Upgrade = false
+is_back Downgrade = true
 
 -- a name and two words behind it
 unfoldable pub two_words : ℕ → List ℕ → List ℕ → List ℕ → Command
@@ -93,7 +96,7 @@ two_words most name a b =
     -- make LIST LEN
     (cond (is name "make") (of_bytes a (of_size b (λ n. Make n)))
     -- upgrade LIST LEN, downgrade LIST LEN
-    (of_direction (direction_of name) (λ back. of_bytes a (of_size b (λ n. Convert back n)))))))
+    (of_direction (direction_of name) (λ direction. of_bytes a (of_size b (λ n. Convert direction n)))))))
 
 -- a name and three words behind it
 unfoldable pub three_words : ℕ → List ℕ → List ℕ → List ℕ → List ℕ → Command
@@ -106,7 +109,7 @@ three_words most name a b c =
 unfoldable pub four_words : List ℕ → List ℕ → List ℕ → List ℕ → List ℕ → Command
 four_words name a b c d =
     -- upgrade LIST PLAN LEN LEN, downgrade LIST PLAN LEN LEN: the first length is that of the list's buffer, the second that of the plan's
-    of_direction (direction_of name) (λ back. of_bytes a (of_bytes b (of_size c (λ n. of_size d (λ m. ConvertPlan back n m)))))
+    of_direction (direction_of name) (λ direction. of_bytes a (of_bytes b (of_size c (λ n. of_size d (λ m. ConvertPlan direction n m)))))
 
 -- a word too many or too few is bad
 abbrev pub call_of : ℕ → List ℕ → List (List ℕ) → Command
@@ -142,6 +145,6 @@ Within most Check = Unit {0}
 Within most (Make n) = n ≤ 8192
 Within most (ListWritten n) = n ≤ 8192
 Within most (Table2 n) = n ≤ 600
-Within most (Convert back n) = n ≤ 8192
-Within most (ConvertPlan back n m) = (n ≤ 8192) × (m ≤ 8192)
+Within most (Convert direction n) = n ≤ 8192
+Within most (ConvertPlan direction n m) = (n ≤ 8192) × (m ≤ 8192)
 Within most (Migrate n) = n ≤ 600

@@ -1,18 +1,26 @@
 // A line of a script turned into a command. The top of crates/console/src/main.rt says what the lines mean.
 #![tactic(auto)]
 
-ghost use Rattle.std.specs.Prelude.{◌≡◌, ◌∷◌};
+ghost use Rattle.std.specs.Prelude.{◌≡◌, ◌∷◌, [], MatchOption};
+ghost use Rattle.std.specs.Option.{unwrap_or};
 ghost use Rattle.script.specs.Decimal.{number_of};
 ghost use Rattle.script.specs.Words.{words_of};
-ghost use Rattle.commands.specs.Commands.{of_bytes, of_site, of_depot, of_litres, of_threshold, of_places, of_size, reads, one_word, direction_of, two_words, three_words, four_words, call_of, command_of};
-ghost use Rattle.commands.specs.declared.Command.TheVariants.{Table, Call, Written, Check, Make, ListWritten, Table2, Convert, ConvertPlan, Migrate};
-ghost use Rattle.store.specs.declared.Request.TheVariants.{Share, Depot, Change, Difference, Add, AtLeast};
+ghost use Rattle.commands.specs.Commands.{of_bytes, of_site, of_depot, of_litres, of_size, reads, one_word, direction_of, two_words, three_words, four_words, call_of, command_of};
+ghost use Rattle.commands.specs.declared.Command.TheVariants.{Bad, Call, ConvertPlan};
+ghost use Rattle.store.specs.declared.Request.TheVariants.{Change, Difference, Add};
 
-use script::Number;
 use store::Request;
 
+// The direction between editions.
+#[derive(Clone, Copy)]
+pub enum Direction {
+    Upgrade,
+    Downgrade,
+}
+
 // What a line asks for. A `Call` is a call of the desk; `written` and `list`, which take a buffer, have variants of their own.
-// `Convert` is of a list, `ConvertPlan` of a list and its plan: `upgrade`, and `downgrade` where the flag is true. Bytes are not held: they are words of the line.
+// `Convert` is of a list, `ConvertPlan` of a list and its plan. Bytes are not held: they are words of the line.
+// Kept: `Blank` and `Bad` are commands of a script, as `command_of` lists them.
 #[derive(Clone, Copy)]
 pub enum Command {
     Blank,
@@ -24,16 +32,9 @@ pub enum Command {
     Make(usize),
     ListWritten(usize),
     Table2(usize),
-    Convert(bool, usize),
-    ConvertPlan(bool, usize, usize),
+    Convert(Direction, usize),
+    ConvertPlan(Direction, usize, usize),
     Migrate(usize),
-}
-
-// The direction between editions that a name stands for: back where the flag is true. Other names have none.
-#[derive(Clone, Copy)]
-enum Direction {
-    Back(bool),
-    None,
 }
 
 // The most places of a table.
@@ -47,339 +48,214 @@ const SITE: u64 = u64::MAX;
 
 const DEPOT: u64 = 255;
 
-const THRESHOLD: u64 = 4294967295;
+const THRESHOLD: u32 = 4294967295;
 
-// table N
-fn table(text: &[u8]) -> Command
-    ensures { result ≡ of_places text.now (λ n. Table n) }
+// The first word and what stands behind it, where there is a word.
+fn next(text: &[u8]) -> Option<(&[u8], &[u8])>
+    ensures { MatchOption result (words_of text.now ≡ []) (λ w. words_of text.now ≡ w.0.now ∷ words_of w.1.now) }
 {
-    match script::decimal(text, PLACES) {
-        Number::Value(n) => Command::Table(n as usize),
-        Number::Bad => Command::Bad,
+    let word = script::word(text);
+    if word.is_empty() {
+        return None;
     }
+    Some((word, script::rest(text)))
 }
 
-// table2 N
-fn table2(text: &[u8]) -> Command
-    ensures { result ≡ of_places text.now (λ n. Table2 n) }
+// A number of sites, places or bytes.
+fn count(text: &[u8], bound: u64) -> Option<usize>
+    ensures { result ≡ number_of bound text.now }
 {
-    match script::decimal(text, PLACES) {
-        Number::Value(n) => Command::Table2(n as usize),
-        Number::Bad => Command::Bad,
-    }
+    script::decimal(text, bound).map(|n| n as usize)
 }
 
-// migrate N
-fn migrate(text: &[u8]) -> Command
-    ensures { result ≡ of_places text.now (λ n. Migrate n) }
+// The number of a depot.
+fn depot(text: &[u8]) -> Option<u8>
+    ensures { result ≡ number_of 255 text.now }
 {
-    match script::decimal(text, PLACES) {
-        Number::Value(n) => Command::Migrate(n as usize),
-        Number::Bad => Command::Bad,
-    }
+    script::decimal(text, DEPOT).map(|n| n as u8)
+}
+
+// The litres of a site or of a threshold.
+fn litres_of(text: &[u8], most: u32) -> Option<u32>
+    ensures { result ≡ number_of most text.now }
+{
+    script::decimal(text, most as u64).map(|n| n as u32)
 }
 
 // The command, where the word stands for bytes.
-fn given(text: &[u8], command: Command) -> Command
-    ensures { result ≡ of_bytes text.now command }
+fn given(text: &[u8], command: Option<Command>) -> Option<Command>
+    ensures { unwrap_or result Bad ≡ of_bytes text.now (unwrap_or command Bad) }
 {
     if script::is_bytes(text) {
         command
     } else {
-        Command::Bad
-    }
-}
-
-// share SITE
-fn share(text: &[u8]) -> Command
-    ensures { result ≡ of_site text.now (λ i. Call (Share i)) }
-{
-    match script::decimal(text, SITE) {
-        Number::Value(i) => Command::Call(Request::Share(i as usize)),
-        Number::Bad => Command::Bad,
-    }
-}
-
-// depot D
-fn depot(text: &[u8]) -> Command
-    ensures { result ≡ of_depot text.now (λ d. Call (Depot d)) }
-{
-    match script::decimal(text, DEPOT) {
-        Number::Value(d) => Command::Call(Request::Depot(d as u8)),
-        Number::Bad => Command::Bad,
-    }
-}
-
-// written LEN
-fn written(text: &[u8]) -> Command
-    ensures { result ≡ of_size text.now (λ n. Written n) }
-{
-    match script::decimal(text, SIZE) {
-        Number::Value(n) => Command::Written(n as usize),
-        Number::Bad => Command::Bad,
-    }
-}
-
-// list LEN
-fn list(text: &[u8]) -> Command
-    ensures { result ≡ of_size text.now (λ n. ListWritten n) }
-{
-    match script::decimal(text, SIZE) {
-        Number::Value(n) => Command::ListWritten(n as usize),
-        Number::Bad => Command::Bad,
-    }
-}
-
-// atleast LITRES
-fn at_least(text: &[u8]) -> Command
-    ensures { result ≡ of_threshold text.now (λ m. Call (AtLeast m)) }
-{
-    match script::decimal(text, THRESHOLD) {
-        Number::Value(m) => Command::Call(Request::AtLeast(m as u32)),
-        Number::Bad => Command::Bad,
+        None
     }
 }
 
 // The call that only reads, by its name and one word behind it.
-fn reads(name: &[u8], word: &[u8]) -> Command
-    ensures { result ≡ reads name.now word.now }
+// Kept: names are told one after another, here and below, in the order of the definitions.
+#[tactic(auto, unfolding(crate::specs::Commands::reads))]
+fn reads(name: &[u8], word: &[u8]) -> Option<Command>
+    ensures { unwrap_or result Bad ≡ reads name.now word.now }
 {
     if script::same(name, b"share") {
-        return share(word);
+        count(word, SITE).map(Request::Share).map(Command::Call)
+    } else if script::same(name, b"depot") {
+        depot(word).map(Request::Depot).map(Command::Call)
+    } else if script::same(name, b"written") {
+        count(word, SIZE).map(Command::Written)
+    } else if script::same(name, b"atleast") {
+        litres_of(word, THRESHOLD)
+            .map(Request::AtLeast)
+            .map(Command::Call)
+    } else if script::same(name, b"list") {
+        count(word, SIZE).map(Command::ListWritten)
+    } else {
+        None
     }
-    if script::same(name, b"depot") {
-        return depot(word);
-    }
-    if script::same(name, b"written") {
-        return written(word);
-    }
-    if script::same(name, b"atleast") {
-        return at_least(word);
-    }
-    if script::same(name, b"list") {
-        return list(word);
-    }
-    Command::Bad
 }
 
 // The call of a name with one word behind it.
-fn one_word(name: &[u8], word: &[u8]) -> Command
-    ensures { result ≡ one_word name.now word.now }
+#[tactic(auto, unfolding(crate::specs::Commands::one_word))]
+fn one_word(name: &[u8], word: &[u8]) -> Option<Command>
+    ensures { unwrap_or result Bad ≡ one_word name.now word.now }
 {
     if script::same(name, b"table") {
-        return table(word);
+        count(word, PLACES).map(Command::Table)
+    } else if script::same(name, b"table2") {
+        count(word, PLACES).map(Command::Table2)
+    } else if script::same(name, b"load") {
+        given(word, Some(Command::Call(Request::Load)))
+    } else if script::same(name, b"propose") {
+        given(word, Some(Command::Call(Request::Propose)))
+    } else if script::same(name, b"migrate") {
+        count(word, PLACES).map(Command::Migrate)
+    } else {
+        reads(name, word)
     }
-    if script::same(name, b"table2") {
-        return table2(word);
-    }
-    if script::same(name, b"load") {
-        return given(word, Command::Call(Request::Load));
-    }
-    if script::same(name, b"propose") {
-        return given(word, Command::Call(Request::Propose));
-    }
-    if script::same(name, b"migrate") {
-        return migrate(word);
-    }
-    reads(name, word)
-}
-
-// The litres of a site.
-fn litres_of(text: &[u8], most: u32) -> Number
-    ensures { result ≡ number_of most text.now }
-{
-    script::decimal(text, most as u64)
 }
 
 // change SITE LITRES
-fn change(site: &[u8], litres: &[u8], most: u32) -> Command
-    ensures { result ≡ of_site site.now (λ i. of_litres most litres.now (λ w. Call (Change i w))) }
+fn change(site: &[u8], litres: &[u8], most: u32) -> Option<Command>
+    ensures { unwrap_or result Bad ≡ of_site site.now (λ i. of_litres most litres.now (λ w. Call (Change i w))) }
 {
-    let Number::Value(i) = script::decimal(site, SITE) else {
-        return Command::Bad;
-    };
-    let Number::Value(w) = litres_of(litres, most) else {
-        return Command::Bad;
-    };
-    Command::Call(Request::Change(i as usize, w as u32))
+    let i = count(site, SITE)?;
+    let w = litres_of(litres, most)?;
+    Some(Command::Call(Request::Change(i, w)))
 }
 
 // difference A B
-fn difference(a: &[u8], b: &[u8]) -> Command
-    ensures { result ≡ of_depot a.now (λ d. of_depot b.now (λ e. Call (Difference d e))) }
+fn difference(a: &[u8], b: &[u8]) -> Option<Command>
+    ensures { unwrap_or result Bad ≡ of_depot a.now (λ d. of_depot b.now (λ e. Call (Difference d e))) }
 {
-    let Number::Value(d) = script::decimal(a, DEPOT) else {
-        return Command::Bad;
-    };
-    let Number::Value(e) = script::decimal(b, DEPOT) else {
-        return Command::Bad;
-    };
-    Command::Call(Request::Difference(d as u8, e as u8))
-}
-
-// make LIST LEN, where LIST stands for bytes
-fn make(len: &[u8]) -> Command
-    ensures { result ≡ of_size len.now (λ n. Make n) }
-{
-    match script::decimal(len, SIZE) {
-        Number::Value(n) => Command::Make(n as usize),
-        Number::Bad => Command::Bad,
-    }
-}
-
-// upgrade LIST LEN, or downgrade LIST LEN, where LIST stands for bytes
-fn convert(back: bool, len: &[u8]) -> Command
-    ensures { result ≡ of_size len.now (λ n. Convert back n) }
-{
-    match script::decimal(len, SIZE) {
-        Number::Value(n) => Command::Convert(back, n as usize),
-        Number::Bad => Command::Bad,
-    }
+    let d = depot(a)?;
+    let e = depot(b)?;
+    Some(Command::Call(Request::Difference(d, e)))
 }
 
 // The direction of a name.
-fn direction_of(name: &[u8]) -> Direction
+#[tactic(auto, unfolding(crate::specs::Commands::direction_of))]
+fn direction_of(name: &[u8]) -> Option<Direction>
     ensures { result ≡ direction_of name.now }
 {
     if script::same(name, b"upgrade") {
-        return Direction::Back(false);
+        Some(Direction::Upgrade)
+    } else if script::same(name, b"downgrade") {
+        Some(Direction::Downgrade)
+    } else {
+        None
     }
-    if script::same(name, b"downgrade") {
-        return Direction::Back(true);
-    }
-    Direction::None
 }
 
 // The call of a name with two words behind it.
-fn two_words(name: &[u8], a: &[u8], b: &[u8], most: u32) -> Command
-    ensures { result ≡ two_words most name.now a.now b.now }
+#[tactic(auto, unfolding(crate::specs::Commands::two_words))]
+fn two_words(name: &[u8], a: &[u8], b: &[u8], most: u32) -> Option<Command>
+    ensures { unwrap_or result Bad ≡ two_words most name.now a.now b.now }
 {
     if script::same(name, b"change") {
-        return change(a, b, most);
+        change(a, b, most)
+    } else if script::same(name, b"difference") {
+        difference(a, b)
+    } else if script::same(name, b"check") {
+        given(a, given(b, Some(Command::Check)))
+    } else if script::same(name, b"make") {
+        given(a, count(b, SIZE).map(Command::Make))
+    } else {
+        let direction = direction_of(name)?;
+        given(a, count(b, SIZE).map(|n| Command::Convert(direction, n)))
     }
-    if script::same(name, b"difference") {
-        return difference(a, b);
-    }
-    if script::same(name, b"check") {
-        return given(a, given(b, Command::Check));
-    }
-    if script::same(name, b"make") {
-        return given(a, make(b));
-    }
-    let Direction::Back(back) = direction_of(name) else {
-        return Command::Bad;
-    };
-    given(a, convert(back, b))
 }
 
 // add FIRST SECOND LITRES
-fn add(first: &[u8], second: &[u8], litres: &[u8], most: u32) -> Command
-    ensures { result ≡ of_depot first.now (λ f. of_depot second.now (λ s. of_litres most litres.now (λ w. Call (Add f s w)))) }
+fn add(first: &[u8], second: &[u8], litres: &[u8], most: u32) -> Option<Command>
+    ensures { unwrap_or result Bad ≡ of_depot first.now (λ f. of_depot second.now (λ s. of_litres most litres.now (λ w. Call (Add f s w)))) }
 {
-    let Number::Value(f) = script::decimal(first, DEPOT) else {
-        return Command::Bad;
-    };
-    let Number::Value(s) = script::decimal(second, DEPOT) else {
-        return Command::Bad;
-    };
-    let Number::Value(w) = litres_of(litres, most) else {
-        return Command::Bad;
-    };
-    Command::Call(Request::Add(f as u8, s as u8, w as u32))
+    let f = depot(first)?;
+    let s = depot(second)?;
+    let w = litres_of(litres, most)?;
+    Some(Command::Call(Request::Add(f, s, w)))
 }
 
 // The call of a name with three words behind it.
-fn three_words(name: &[u8], a: &[u8], b: &[u8], c: &[u8], most: u32) -> Command
-    ensures { result ≡ three_words most name.now a.now b.now c.now }
+#[tactic(auto, unfolding(crate::specs::Commands::three_words))]
+fn three_words(name: &[u8], a: &[u8], b: &[u8], c: &[u8], most: u32) -> Option<Command>
+    ensures { unwrap_or result Bad ≡ three_words most name.now a.now b.now c.now }
 {
     if script::same(name, b"add") {
-        return add(a, b, c, most);
+        add(a, b, c, most)
+    } else {
+        None
     }
-    Command::Bad
 }
 
 // upgrade LIST PLAN LEN LEN, or downgrade LIST PLAN LEN LEN, where LIST and PLAN stand for bytes
-fn convert_plan(back: bool, len: &[u8], other: &[u8]) -> Command
-    ensures { result ≡ of_size len.now (λ n. of_size other.now (λ m. ConvertPlan back n m)) }
+fn convert_plan(direction: Direction, len: &[u8], other: &[u8]) -> Option<Command>
+    ensures { unwrap_or result Bad ≡ of_size len.now (λ n. of_size other.now (λ m. ConvertPlan direction n m)) }
 {
-    let Number::Value(n) = script::decimal(len, SIZE) else {
-        return Command::Bad;
-    };
-    let Number::Value(m) = script::decimal(other, SIZE) else {
-        return Command::Bad;
-    };
-    Command::ConvertPlan(back, n as usize, m as usize)
+    let n = count(len, SIZE)?;
+    let m = count(other, SIZE)?;
+    Some(Command::ConvertPlan(direction, n, m))
 }
 
 // The call of a name with four words behind it.
-fn four_words(name: &[u8], a: &[u8], b: &[u8], c: &[u8], d: &[u8]) -> Command
-    ensures { result ≡ four_words name.now a.now b.now c.now d.now }
+#[tactic(auto, unfolding(crate::specs::Commands::four_words))]
+fn four_words(name: &[u8], a: &[u8], b: &[u8], c: &[u8], d: &[u8]) -> Option<Command>
+    ensures { unwrap_or result Bad ≡ four_words name.now a.now b.now c.now d.now }
 {
-    let Direction::Back(back) = direction_of(name) else {
-        return Command::Bad;
-    };
-    given(a, given(b, convert_plan(back, c, d)))
+    let direction = direction_of(name)?;
+    given(a, given(b, convert_plan(direction, c, d)))
 }
 
-// The call of a name, three words, and the words of what stands behind them.
-fn fourth(name: &[u8], a: &[u8], b: &[u8], c: &[u8], text: &[u8], most: u32) -> Command
-    ensures { result ≡ call_of most name.now (a.now ∷ b.now ∷ c.now ∷ words_of text.now) }
+// The call of a name and the words of what stands behind it: one to four.
+fn call(name: &[u8], text: &[u8], most: u32) -> Option<Command>
+    ensures { unwrap_or result Bad ≡ call_of most name.now (words_of text.now) }
 {
-    let d = script::word(text);
-    if d.len() == 0 {
-        return three_words(name, a, b, c, most);
-    }
-    let others = script::rest(text);
-    let e = script::word(others);
-    if e.len() == 0 {
-        return four_words(name, a, b, c, d);
-    }
-    Command::Bad
-}
-
-// The call of a name, two words, and the words of what stands behind them.
-fn third(name: &[u8], a: &[u8], b: &[u8], text: &[u8], most: u32) -> Command
-    ensures { result ≡ call_of most name.now (a.now ∷ b.now ∷ words_of text.now) }
-{
-    let c = script::word(text);
-    if c.len() == 0 {
-        return two_words(name, a, b, most);
-    }
-    fourth(name, a, b, c, script::rest(text), most)
-}
-
-// The call of a name, one word, and the words of what stands behind it.
-fn second(name: &[u8], a: &[u8], text: &[u8], most: u32) -> Command
-    ensures { result ≡ call_of most name.now (a.now ∷ words_of text.now) }
-{
-    let b = script::word(text);
-    if b.len() == 0 {
+    let (a, text) = next(text)?;
+    let Some((b, text)) = next(text) else {
         return one_word(name, a);
+    };
+    let Some((c, text)) = next(text) else {
+        return two_words(name, a, b, most);
+    };
+    let Some((d, text)) = next(text) else {
+        return three_words(name, a, b, c, most);
+    };
+    if next(text).is_some() {
+        return None;
     }
-    third(name, a, b, script::rest(text), most)
-}
-
-// The call of a name and the words of what stands behind it.
-fn first(name: &[u8], text: &[u8], most: u32) -> Command
-    ensures { result ≡ call_of most name.now (words_of text.now) }
-{
-    let a = script::word(text);
-    if a.len() == 0 {
-        return Command::Bad;
-    }
-    second(name, a, script::rest(text), most)
+    four_words(name, a, b, c, d)
 }
 
 // The command of a line. Litres that go to the table are at most `most`.
 pub fn parse(line: &[u8], most: u32) -> Command
     ensures { result ≡ command_of most line.now }
 {
-    let name = script::word(line);
-    if name.len() == 0 {
+    let Some((name, text)) = next(line) else {
+        return Command::Blank;
+    };
+    if name.starts_with(b"#") {
         return Command::Blank;
     }
-    if name[0] == b'#' {
-        return Command::Blank;
-    }
-    first(name, script::rest(line), most)
+    call(name, text, most).unwrap_or(Command::Bad)
 }

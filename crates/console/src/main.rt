@@ -37,28 +37,80 @@
 // The last line may lack its newline. An answer is printed as soon as its line is read.
 #![tactic(auto)]
 
-ghost use Rattle.std.specs.Prelude.{◌≡◌, true, ◌⊎◌, ℕ, ◌+◌, ◌*◌, ◌≤◌, ◌^◌, nat_abs, IfOk};
+ghost use Rattle.std.specs.Prelude.{◌≡◌, ◌⊎◌, ℕ, ◌+◌, ◌*◌, ◌≤◌, ◌^◌, IfOk};
 ghost use Rattle.script.specs.Prefix.{IsPrefixLen};
-ghost use Rattle.commands.specs.Commands.{Within};
+ghost use Rattle.commands.specs.Commands.{is_back, Within};
 ghost use Rattle.store.specs.Widths.{Named};
 ghost use Rattle.layout.specs.Layout.{store_size};
 ghost use Rattle.records.specs.Write.{WrittenOf};
 ghost use Rattle.records.specs.Files.{WrittenBoth};
 ghost use Rattle.converter.specs.Convert.{way, convert_list, convert_plan};
 ghost use Rattle.console.specs.Editions.{edition_at, desk_after};
+ghost use Rattle.console.specs.declared.DeskEdition.TheVariants.{Second};
 
-use commands::Command;
-use records::{Edition, Wrote, WroteBoth, edition1, edition2};
+use commands::{Command, Direction};
+use records::{Edition, Lengths, Refusal, edition1, edition2};
 use std::io;
 use std::io::Read;
 use store::{Answer, Request};
-use tables::Verdict;
 
-// The bytes of a store and of its table, of edition 2 if `second` is true and else of edition 1, and how many places the table has: at most 600.
+// Which edition a desk is of.
+#[derive(Clone, Copy)]
+enum DeskEdition {
+    First,
+    Second,
+}
+
+impl DeskEdition {
+    fn edition(self) -> Edition
+        ensures { result ≡ edition_at self }
+    {
+        match self {
+            DeskEdition::First => edition1(),
+            DeskEdition::Second => edition2(),
+        }
+    }
+
+    // The largest number of litres.
+    fn most_litres(self) -> u32
+        ensures { result + 1 ≡ 256 ^ (edition_at self).litres }
+    {
+        match self {
+            DeskEdition::First => 65535,
+            DeskEdition::Second => u32::MAX,
+        }
+    }
+
+    // The bytes of a store.
+    fn store_bytes(self) -> usize
+        ensures { result ≡ store_size (edition_at self).share (edition_at self).roll }
+    {
+        match self {
+            DeskEdition::First => 2584,
+            DeskEdition::Second => 4704,
+        }
+    }
+
+    // The bytes of a table of so many places, at most 600; of more, which no desk has, none.
+    fn table_bytes(self, places: usize) -> usize
+        ensures upper_bound { result ≤ 3600 }
+        ensures value { places ≤ 600 → result ≡ (2 + (edition_at self).litres) * places }
+    {
+        if places > 600 {
+            return 0;
+        }
+        match self {
+            DeskEdition::First => 4 * places,
+            DeskEdition::Second => 6 * places,
+        }
+    }
+}
+
+// The bytes of a store and of its table, and how many places the table has: at most 600.
 // In edition 2 a store has 4,704 bytes and a place 6; in edition 1 a store has the first 2,584 bytes, and a place 4.
 #[derive(Clone, Copy)]
 struct Desk {
-    second: bool,
+    edition: DeskEdition,
     places: usize,
     store: [u8; 4704],
     table: [u8; 3600],
@@ -67,96 +119,57 @@ struct Desk {
 // What a step to edition 2 answers, and the desk behind it.
 #[derive(Clone, Copy)]
 struct Step {
-    answer: Answer,
+    answer: Result<Answer, Refusal>,
     desk: Desk,
 }
 
-// What is kept between reads: whether there may be more to read, how many bytes of the next line are read, and the desk.
+// What is kept between reads: how many bytes of the next line are read, and the desk.
 #[derive(Clone, Copy)]
 struct State {
-    more: bool,
     used: usize,
     desk: Desk,
 }
 
 fn bad(rt: &impl Print) -> io::Result<()> {
-    rt.print("bad line\n")
-}
-
-fn print_number(rt: &impl Print, before: &str, n: u64) -> io::Result<()> {
-    print!(rt; "{before}{n}")
-}
-
-fn print_numbers(rt: &impl Print, before: &str, a: u64, b: u64) -> io::Result<()> {
-    print!(rt; "{before}{a} {b}")
-}
-
-// How far a number is from 0. The smallest has none above zero of its type, so one is taken off before the sign is.
-fn magnitude(d: i64) -> u64
-    ensures { result ≡ nat_abs d }
-{
-    if d < 0 {
-        return ((-1 - d) as u64) + 1;
-    }
-    d as u64
-}
-
-fn print_refused(rt: &impl Print, row: u8) -> io::Result<()> {
-    print_number(rt, "refused ", row as u64)
-}
-
-fn print_length(rt: &impl Print, n: usize) -> io::Result<()> {
-    print_number(rt, "length ", n as u64)
-}
-
-fn print_difference(rt: &impl Print, d: i64, q: u64) -> io::Result<()> {
-    if d < 0 {
-        print_numbers(rt, "difference -", magnitude(d), q)
-    } else {
-        print_numbers(rt, "difference ", magnitude(d), q)
-    }
+    println!(rt; "bad line")
 }
 
 // A set of depots as in a plan's group record: eight bytes, the lowest first.
 fn print_set(rt: &impl Print, x: u64) -> io::Result<()> {
-    let mut bytes = [0u8; 8];
-    records::number::put(&mut bytes, x);
-    let mut text = [0u8; 16];
-    let n = script::encode(&bytes, &mut text);
-    rt.print("set ")?;
-    rt.write_all(&text[..n])
+    print!(rt; "set {:016X}", x.swap_bytes())
 }
 
-fn print_answer(rt: &impl Print, a: Answer) -> io::Result<()> {
+fn print_refused(rt: &impl Print, row: Refusal) -> io::Result<()> {
+    print!(rt; "refused {}", row.number())
+}
+
+fn print_answer(rt: &impl Print, a: Result<Answer, Refusal>) -> io::Result<()> {
     match a {
-        Answer::Refused(row) => print_refused(rt, row),
-        Answer::Done => rt.print("done"),
-        Answer::Share(s, w) => print_numbers(rt, "share ", s, w),
-        Answer::Depot(w, q) => print_numbers(rt, "depot ", w, q),
-        Answer::Difference(d, q) => print_difference(rt, d, q),
-        Answer::Length(n) => print_length(rt, n),
-        Answer::Reached(x) => print_set(rt, x),
+        Ok(Answer::Done) => print!(rt; "done"),
+        Ok(Answer::Share(s, w)) => print!(rt; "share {s} {w}"),
+        Ok(Answer::Depot(w, q)) => print!(rt; "depot {w} {q}"),
+        Ok(Answer::Difference(d, q)) => print!(rt; "difference {d} {q}"),
+        Ok(Answer::Length(n)) => print!(rt; "length {n}"),
+        Ok(Answer::Reached(x)) => print_set(rt, x),
+        Err(row) => print_refused(rt, row),
     }
 }
 
-fn print_wrote(rt: &impl Print, w: Wrote) -> io::Result<()> {
+fn print_wrote(rt: &impl Print, w: Result<usize, Refusal>) -> io::Result<()> {
+    print_answer(rt, w.map(Answer::Length))
+}
+
+fn print_wrote_both(rt: &impl Print, w: Result<Lengths, Refusal>) -> io::Result<()> {
     match w {
-        Wrote::Length(n) => print_length(rt, n),
-        Wrote::Refused(row) => print_refused(rt, row),
+        Ok(n) => print!(rt; "lengths {} {}", n.list, n.plan),
+        Err(row) => print_refused(rt, row),
     }
 }
 
-fn print_wrote_both(rt: &impl Print, w: WroteBoth) -> io::Result<()> {
-    match w {
-        WroteBoth::Lengths(n, m) => print_numbers(rt, "lengths ", n as u64, m as u64),
-        WroteBoth::Refused(row) => print_refused(rt, row),
-    }
-}
-
-fn print_verdict(rt: &impl Print, v: Verdict) -> io::Result<()> {
+fn print_verdict(rt: &impl Print, v: Result<(), Refusal>) -> io::Result<()> {
     match v {
-        Verdict::Passes => rt.print("passes"),
-        Verdict::Refused(row) => print_refused(rt, row),
+        Ok(()) => print!(rt; "passes"),
+        Err(row) => print_refused(rt, row),
     }
 }
 
@@ -166,7 +179,7 @@ fn end_answer(rt: &impl Print) -> io::Result<()> {
 
 // A buffer behind an answer.
 fn print_buffer(rt: &impl Print, bytes: &[u8]) -> io::Result<()> {
-    if bytes.len() == 0 {
+    if bytes.is_empty() {
         return rt.print(" -");
     }
     let mut text = [0u8; 16384];
@@ -209,53 +222,64 @@ fn run_make(rt: &impl Print, args: &[u8], len: usize) -> io::Result<()>
     made_in(rt, &bytes[..n], &mut out[..len])
 }
 
-// Converts a list, back if `back` is true and else up.
-fn convert(back: bool, list: &[u8], out: &mut [u8]) -> Wrote
-    ensures { WrittenOf (convert_list (way back) list.now out.old) out.old result out.new }
+// Converts a list.
+fn convert(direction: Direction, list: &[u8], out: &mut [u8]) -> Result<usize, Refusal>
+    ensures { WrittenOf (convert_list (way (is_back direction)) list.now out.old) out.old result out.new }
 {
-    if back {
-        return converter::downgrade_list(list, out);
+    match direction {
+        Direction::Upgrade => converter::upgrade_list(list, out),
+        Direction::Downgrade => converter::downgrade_list(list, out),
     }
-    converter::upgrade_list(list, out)
 }
 
 // Converts a list in a buffer, and prints the answer and the buffer.
-fn converted_in(rt: &impl Print, back: bool, list: &[u8], out: &mut [u8]) -> io::Result<()> {
-    print_wrote(rt, convert(back, list, out))?;
+fn converted_in(
+    rt: &impl Print,
+    direction: Direction,
+    list: &[u8],
+    out: &mut [u8],
+) -> io::Result<()> {
+    print_wrote(rt, convert(direction, list, out))?;
     print_buffer(rt, out)?;
     end_answer(rt)
 }
 
 // upgrade LIST LEN, downgrade LIST LEN
-fn run_convert(rt: &impl Print, args: &[u8], back: bool, len: usize) -> io::Result<()>
+fn run_convert(rt: &impl Print, args: &[u8], direction: Direction, len: usize) -> io::Result<()>
     requires { len ≤ 8192 }
 {
     let mut bytes = [0u8; 8192];
     let n = script::decode(script::word(args), &mut bytes);
     let mut out = [0xA5u8; 8192];
-    converted_in(rt, back, &bytes[..n], &mut out[..len])
+    converted_in(rt, direction, &bytes[..n], &mut out[..len])
 }
 
-// Converts a list and its plan, back if `back` is true and else up.
-fn convert_plan(back: bool, list: &[u8], plan: &[u8], out: &mut [u8], other: &mut [u8]) -> WroteBoth
-    ensures { WrittenBoth (convert_plan (way back) list.now plan.now out.old other.old) out.old other.old result out.new other.new }
+// Converts a list and its plan.
+fn convert_plan(
+    direction: Direction,
+    list: &[u8],
+    plan: &[u8],
+    out: &mut [u8],
+    other: &mut [u8],
+) -> Result<Lengths, Refusal>
+    ensures { WrittenBoth (convert_plan (way (is_back direction)) list.now plan.now out.old other.old) out.old other.old result out.new other.new }
 {
-    if back {
-        return converter::downgrade_plan(list, plan, out, other);
+    match direction {
+        Direction::Upgrade => converter::upgrade_plan(list, plan, out, other),
+        Direction::Downgrade => converter::downgrade_plan(list, plan, out, other),
     }
-    converter::upgrade_plan(list, plan, out, other)
 }
 
 // Converts a list and its plan in two buffers, and prints the answer and both buffers.
 fn plan_converted_in(
     rt: &impl Print,
-    back: bool,
+    direction: Direction,
     list: &[u8],
     plan: &[u8],
     out: &mut [u8],
     other: &mut [u8],
 ) -> io::Result<()> {
-    print_wrote_both(rt, convert_plan(back, list, plan, out, other))?;
+    print_wrote_both(rt, convert_plan(direction, list, plan, out, other))?;
     print_buffer(rt, out)?;
     print_buffer(rt, other)?;
     end_answer(rt)
@@ -265,7 +289,7 @@ fn plan_converted_in(
 fn run_convert_plan(
     rt: &impl Print,
     args: &[u8],
-    back: bool,
+    direction: Direction,
     first: usize,
     second: usize,
 ) -> io::Result<()>
@@ -279,7 +303,7 @@ fn run_convert_plan(
     let mut other = [0xA5u8; 8192];
     plan_converted_in(
         rt,
-        back,
+        direction,
         &a[..n],
         &b[..m],
         &mut out[..first],
@@ -287,47 +311,14 @@ fn run_convert_plan(
     )
 }
 
-// The edition of a desk.
-fn edition(second: bool) -> Edition
-    ensures { result ≡ edition_at second }
-{
-    if second { edition2() } else { edition1() }
-}
-
-// The largest number of litres of the edition.
-fn most_litres(second: bool) -> u32
-    ensures { result + 1 ≡ 256 ^ (edition_at second).litres }
-{
-    if second { u32::MAX } else { 65535 }
-}
-
-// The bytes of a store of the edition.
-fn store_bytes(second: bool) -> usize
-    ensures { result ≡ store_size (edition_at second).share (edition_at second).roll }
-{
-    if second { 4704 } else { 2584 }
-}
-
-// The bytes of a table of so many places, at most 600; of more, which no desk has, none.
-fn table_bytes(second: bool, places: usize) -> usize
-    ensures upper_bound { result ≤ 3600 }
-    ensures value { places ≤ 600 → result ≡ (2 + (edition_at second).litres) * places }
-{
-    if places > 600 {
-        return 0;
-    }
-    if second { 6 * places } else { 4 * places }
-}
-
 // A fresh desk, and a table of so many places.
-fn fresh(second: bool, places: usize) -> Desk
+fn fresh(edition: DeskEdition, places: usize) -> Desk
     requires { places ≤ 600 }
 {
     let mut store = [0u8; 4704];
-    let size = store_bytes(second);
-    lent::fresh(edition(second), &mut store[..size]);
+    lent::fresh(edition.edition(), &mut store[..edition.store_bytes()]);
     Desk {
-        second,
+        edition,
         places,
         store,
         table: [0; 3600],
@@ -335,16 +326,14 @@ fn fresh(second: bool, places: usize) -> Desk
 }
 
 // table N, table2 N
-fn run_table(rt: &impl Print, second: bool, places: usize) -> io::Result<Desk>
+fn run_table(rt: &impl Print, edition: DeskEdition, places: usize) -> io::Result<Desk>
     requires { places ≤ 600 }
 {
-    if second {
-        print_number(rt, "table2 ", places as u64)?;
-    } else {
-        print_number(rt, "table ", places as u64)?;
+    match edition {
+        DeskEdition::First => println!(rt; "table {places}")?,
+        DeskEdition::Second => println!(rt; "table2 {places}")?,
     }
-    end_answer(rt)?;
-    Ok(fresh(second, places))
+    Ok(fresh(edition, places))
 }
 
 // The end of a line with a call's answer: `written` and `list` print the buffer.
@@ -359,43 +348,34 @@ fn end_call(rt: &impl Print, request: Request, buffer: &[u8]) -> io::Result<()> 
 // A call of the desk, and its answer: the entry over lent bytes, which the library exports call by call.
 fn called(
     rt: &impl Print,
-    desk: Desk,
+    mut desk: Desk,
     request: Request,
     input: &[u8],
     buffer: &mut [u8],
 ) -> io::Result<Desk>
-    requires { Named (256 ^ (edition_at desk.second).litres) request }
+    requires { Named (256 ^ (edition_at desk.edition).litres) request }
 {
-    let second = desk.second;
-    let places = desk.places;
-    let mut store = desk.store;
-    let mut table = desk.table;
-    let size = store_bytes(second);
-    let n = table_bytes(second, places);
+    let size = desk.edition.store_bytes();
+    let n = desk.edition.table_bytes(desk.places);
     let answer = lent::call(
-        edition(second),
-        &mut store[..size],
-        &mut table[..n],
+        desk.edition.edition(),
+        &mut desk.store[..size],
+        &mut desk.table[..n],
         request,
         input,
         buffer,
     );
     print_answer(rt, answer)?;
     end_call(rt, request, buffer)?;
-    Ok(Desk {
-        second,
-        places,
-        store,
-        table,
-    })
+    Ok(desk)
 }
 
 // The desk behind a step that is so answered: the new one where it is done, and else the old one.
-fn desk_after(answer: Answer, old: Desk, new: Desk) -> Desk
+fn desk_after(answer: Result<Answer, Refusal>, old: Desk, new: Desk) -> Desk
     ensures { result ≡ desk_after answer old new }
 {
     match answer {
-        Answer::Done => new,
+        Ok(Answer::Done) => new,
         _ => old,
     }
 }
@@ -403,21 +383,19 @@ fn desk_after(answer: Answer, old: Desk, new: Desk) -> Desk
 // The step of a desk of edition 1 to edition 2 and a new table of so many places: the entry over lent bytes, which the library exports.
 fn migrated(desk: Desk, places: usize) -> Step
     requires { places ≤ 600 }
-    ensures { (result.desk ≡ desk) ⊎ ((result.desk.second ≡ true) × (result.desk.places ≡ places)) }
+    ensures { (result.desk ≡ desk) ⊎ ((result.desk.edition ≡ Second) × (result.desk.places ≡ places)) }
 {
-    let store = desk.store;
-    let table = desk.table;
-    let n = table_bytes(false, desk.places);
+    let n = DeskEdition::First.table_bytes(desk.places);
     let mut store2 = [0u8; 4704];
     let mut table2 = [0u8; 3600];
     let answer = store_migrate_bytes::migrate(
-        &store[..2584],
-        &table[..n],
+        &desk.store[..2584],
+        &desk.table[..n],
         &mut store2,
         &mut table2[..6 * places],
     );
     let new = Desk {
-        second: true,
+        edition: DeskEdition::Second,
         places,
         store: store2,
         table: table2,
@@ -431,9 +409,9 @@ fn migrated(desk: Desk, places: usize) -> Step
 // migrate N
 fn run_migrate(rt: &impl Print, desk: Desk, places: usize) -> io::Result<Desk>
     requires { places ≤ 600 }
-    ensures { desk.second ≡ true → IfOk result (λ after. after ≡ desk) }
+    ensures { desk.edition ≡ Second → IfOk result (λ after. after ≡ desk) }
 {
-    if desk.second {
+    if let DeskEdition::Second = desk.edition {
         bad(rt)?;
         return Ok(desk);
     }
@@ -461,7 +439,7 @@ fn run_call(
     args: &[u8],
     len: usize,
 ) -> io::Result<Desk>
-    requires { (len ≤ 8192) × Named (256 ^ (edition_at desk.second).litres) request }
+    requires { (len ≤ 8192) × Named (256 ^ (edition_at desk.edition).litres) request }
 {
     let mut bytes = [0u8; 8192];
     let n = input_of(request, args, &mut bytes);
@@ -477,21 +455,27 @@ fn run_apart(rt: &impl Print, command: Command, line: &[u8]) -> io::Result<()>
         Command::Bad => bad(rt),
         Command::Check => run_check(rt, script::rest(line)),
         Command::Make(n) => run_make(rt, script::rest(line), n),
-        Command::Convert(back, n) => run_convert(rt, script::rest(line), back, n),
-        Command::ConvertPlan(back, n, m) => run_convert_plan(rt, script::rest(line), back, n, m),
+        Command::Convert(direction, n) => run_convert(rt, script::rest(line), direction, n),
+        Command::ConvertPlan(direction, n, m) => run_convert_plan(
+            rt,
+            script::rest(line),
+            direction,
+            n,
+            m,
+        ),
         _ => Ok(()),
     }
 }
 
 // Carries out a line.
 fn run_line(rt: &impl Print, desk: Desk, line: &[u8]) -> io::Result<Desk> {
-    let command = commands::parse(line, most_litres(desk.second));
+    let command = commands::parse(line, desk.edition.most_litres());
     match command {
-        Command::Table(n) => run_table(rt, false, n),
+        Command::Table(n) => run_table(rt, DeskEdition::First, n),
         Command::Call(request) => run_call(rt, desk, request, script::rest(line), 0),
         Command::Written(n) => run_call(rt, desk, Request::Written, script::rest(line), n),
         Command::ListWritten(n) => run_call(rt, desk, Request::ListWritten, script::rest(line), n),
-        Command::Table2(n) => run_table(rt, true, n),
+        Command::Table2(n) => run_table(rt, DeskEdition::Second, n),
         Command::Migrate(n) => run_migrate(rt, desk, n),
         _ => {
             run_apart(rt, command, line)?;
@@ -511,55 +495,37 @@ fn run_used(rt: &impl Print, desk: Desk, line: &[u8], used: usize) -> io::Result
 
 // Carries out the line that is read, and begins the next.
 fn end_line(rt: &impl Print, state: State, line: &[u8]) -> io::Result<State> {
-    let desk = state.desk;
     Ok(State {
-        more: state.more,
         used: 0,
-        desk: run_used(rt, desk, line, state.used)?,
+        desk: run_used(rt, state.desk, line, state.used)?,
     })
 }
 
 // Takes in a piece of the input.
-fn feed(rt: &impl Print, before: State, line: &mut [u8], piece: &[u8]) -> io::Result<State> {
-    let mut state = before;
-    let mut i = 0;
-    while i < piece.len() {
-        let b = piece[i];
-        if b == b'\n' {
+fn feed(rt: &impl Print, mut state: State, line: &mut [u8], piece: &[u8]) -> io::Result<State> {
+    for b in piece {
+        if *b == b'\n' {
             state = end_line(rt, state, line)?;
         } else {
-            state.used = script::put(line, state.used, b);
+            state.used = script::put(line, state.used, *b);
         }
-        i += 1;
     }
     Ok(state)
 }
 
-// One read, of what is there.
-fn read_piece<R: Read>(
-    rt: &impl Print,
-    input: &mut R,
-    before: State,
-    line: &mut [u8],
-) -> io::Result<State> {
-    let mut piece = [0u8; 4096];
-    let n = input.read(&mut piece)?;
-    let mut state = feed(rt, before, line, &piece[..n])?;
-    state.more = n > 0;
-    Ok(state)
-}
-
-// A proved loop has to end, and nothing says that the input does: the loop counts its turns down, from a number that no run uses up.
+// Reads to the end of the input. A proved loop has to end, and nothing says that the input does: the loop has so many turns that no run uses them up.
 fn read_all<R: Read>(rt: &impl Print, input: &mut R, line: &mut [u8]) -> io::Result<State> {
     let mut state = State {
-        more: true,
         used: 0,
-        desk: fresh(false, 512),
+        desk: fresh(DeskEdition::First, 512),
     };
-    let mut turns = u64::MAX;
-    while turns > 0 && state.more {
-        state = read_piece(rt, input, state, line)?;
-        turns -= 1;
+    let mut piece = [0u8; 4096];
+    for _ in 0..u64::MAX {
+        let n = input.read(&mut piece)?;
+        if n == 0 {
+            break;
+        }
+        state = feed(rt, state, line, &piece[..n])?;
     }
     Ok(state)
 }

@@ -11,8 +11,9 @@ use contract.Notation.{connectives}
 use types.Logic.{Logic}
 use base.Logic.{SProp}
 use denote.Ref.{Bor, MutBor}
-use Rattle.records.specs.declared.Wrote.{Wrote}
-use Rattle.records.specs.declared.WroteBoth.{WroteBoth}
+use Rattle.std.specs.declared.result.Result.{Result}
+use Rattle.records.specs.declared.Lengths.{Lengths}
+use Rattle.records.specs.declared.refusal.Refusal.{Refusal}
 use Rattle.records.specs.Write.{WrittenOf}
 use Rattle.records.specs.Files.{WrittenBoth}
 use Rattle.converter.specs.Convert.{upgrade, downgrade, convert_list, convert_plan}
@@ -25,14 +26,14 @@ module _ {M : Type 1} {𝓤 : Ura M} (𝓛 : Logic 𝓤) (mem : Memory → SProp
   open connectives 𝓤 use {⌜◌⌝, ⊤ₛ}
 
   module _ (κs : Lfts 2) (list : Bor (List ℕ)) (out : MutBor (List ℕ)) where
-    upgrade-list-says : (r : Wrote) (list' : Bor (List ℕ)) (out' : MutBor (List ℕ))
+    upgrade-list-says : (r : Result ℕ Refusal) (list' : Bor (List ℕ)) (out' : MutBor (List ℕ))
         → (of-upgrade-list.clauses 𝓛 mem run κs (list, (out, tt))).ensures tt r (list', (out', tt)) ≡ ⌜ WrittenOf (convert_list upgrade list.now out.now) out.now r out'.now ⌝
     upgrade-list-says r list' out' = refl
 
     upgrade-list-asks : (of-upgrade-list.clauses 𝓛 mem run κs (list, (out, tt))).requires tt ≡ ⊤ₛ
     upgrade-list-asks = refl
 
-    downgrade-list-says : (r : Wrote) (list' : Bor (List ℕ)) (out' : MutBor (List ℕ))
+    downgrade-list-says : (r : Result ℕ Refusal) (list' : Bor (List ℕ)) (out' : MutBor (List ℕ))
         → (of-downgrade-list.clauses 𝓛 mem run κs (list, (out, tt))).ensures tt r (list', (out', tt)) ≡ ⌜ WrittenOf (convert_list downgrade list.now out.now) out.now r out'.now ⌝
     downgrade-list-says r list' out' = refl
 
@@ -40,7 +41,7 @@ module _ {M : Type 1} {𝓤 : Ura M} (𝓛 : Logic 𝓤) (mem : Memory → SProp
     downgrade-list-asks = refl
 
   module _ (κs : Lfts 4) (list plan : Bor (List ℕ)) (out other : MutBor (List ℕ)) where
-    upgrade-plan-says : (r : WroteBoth) (list' plan' : Bor (List ℕ)) (out' other' : MutBor (List ℕ))
+    upgrade-plan-says : (r : Result Lengths Refusal) (list' plan' : Bor (List ℕ)) (out' other' : MutBor (List ℕ))
         → (of-upgrade-plan.clauses 𝓛 mem run κs (list, (plan, (out, (other, tt))))).ensures tt r (list', (plan', (out', (other', tt))))
         ≡ ⌜ WrittenBoth (convert_plan upgrade list.now plan.now out.now other.now) out.now other.now r out'.now other'.now ⌝
     upgrade-plan-says r list' plan' out' other' = refl
@@ -48,7 +49,7 @@ module _ {M : Type 1} {𝓤 : Ura M} (𝓛 : Logic 𝓤) (mem : Memory → SProp
     upgrade-plan-asks : (of-upgrade-plan.clauses 𝓛 mem run κs (list, (plan, (out, (other, tt))))).requires tt ≡ ⊤ₛ
     upgrade-plan-asks = refl
 
-    downgrade-plan-says : (r : WroteBoth) (list' plan' : Bor (List ℕ)) (out' other' : MutBor (List ℕ))
+    downgrade-plan-says : (r : Result Lengths Refusal) (list' plan' : Bor (List ℕ)) (out' other' : MutBor (List ℕ))
         → (of-downgrade-plan.clauses 𝓛 mem run κs (list, (plan, (out, (other, tt))))).ensures tt r (list', (plan', (out', (other', tt))))
         ≡ ⌜ WrittenBoth (convert_plan downgrade list.now plan.now out.now other.now) out.now other.now r out'.now other'.now ⌝
     downgrade-plan-says r list' plan' out' other' = refl

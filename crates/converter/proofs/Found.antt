@@ -6,43 +6,31 @@ use mathlib.Core.Option.{none, some}
 use Prim.Native.Nat.{ℕ, ◌≤◌}
 use native.Mathlib.Omega.{arith}
 use lib.Dec.{T}
-use lib.ListN.{length, get_or}
-use lib.Seq.{get_or-take}
+use lib.ListN.{length}
 use Rattle.sets.specs.Sum.{any}
-use Rattle.sets.proofs.Sum.{any-cong}
-use Rattle.density.specs.Network.{Listing, no_site, in_range}
+use Rattle.density.specs.Network.{Listing, in_range}
 use Rattle.density.specs.Rows.{row, first_row}
 use Rattle.records.specs.declared.RollArray.{RollArray}
 use Rattle.records.specs.declared.ListArray.{ListArray}
 use Rattle.records.specs.declared.PlanArray.{PlanArray}
-use Rattle.records.specs.declared.ListRead.{ListRead}
-use Rattle.records.specs.declared.PlanRead.{PlanRead}
-use Rattle.records.specs.declared.Read.TheVariants as read
-use Rattle.records.specs.declared.Wrote.{Wrote}
-use Rattle.records.specs.declared.Wrote.TheVariants as wrote
-use Rattle.records.specs.declared.WroteBoth.{WroteBoth}
-use Rattle.records.specs.declared.WroteBoth.TheVariants as both
+use Rattle.std.specs.declared.result.Result.{Result}
+use Rattle.std.specs.declared.result.Result.TheVariants.{Err}
+use Rattle.records.specs.declared.Lengths.{Lengths}
+use Rattle.records.specs.declared.refusal.Refusal.{Refusal}
+use Rattle.records.specs.Refusals.{number}
 use Rattle.records.specs.Bytes.{Bytes}
 use Rattle.records.specs.Values.{roll_in, listing, Plan, plan_in}
 use Rattle.records.specs.Outcome.{Outcome, refused, passed, gate, bind}
-use Rattle.records.specs.Answer.{list_read, plan_array, plan_read}
+use Rattle.records.specs.Answer.{plan_array, list_read, plan_read}
 use Rattle.records.specs.Format.{read_list}
 use Rattle.records.specs.Write.{list_bytes, WrittenOf, Written}
 use Rattle.records.specs.Files.{files, fitted_both, WrittenBoth}
 use Rattle.records.proofs.Outcomes.{clear}
-use Rattle.records.proofs.RoundTrip.{list-few}
-use Rattle.records.proofs.Answers.{listing-array, plan-counted, plan-array, list-is, list-sized, array-few, array-range, list-refused-by, plan-refused-by}
+use Rattle.records.proofs.Answers.{plan-array, plan-passed, list-is, list-sized, array-few, array-range, list-refused, plan-refused}
 use Rattle.judge.specs.Check.{judged_for}
 use Rattle.judge.proofs.Truth.{judged-true}
 use Rattle.converter.specs.declared.Way.{Way}
-use Rattle.converter.specs.Convert.{is_outside, outside, has_roll, unfit, list_for, convert_list, convert_plan}
-
--- row 21 over the places of an array
-pub outside-listing : (l : ListArray) → length (listing l).sites ≡ l.count → outside (listing l) ≡ any (λ i. is_outside (get_or l.sites i no_site)) l.count
-unfolding outside
-outside-listing l each =
-    ap (any (λ i. is_outside (get_or (listing l).sites i no_site))) each
-    ∙ any-cong _ _ l.count (λ i k. ap is_outside (get_or-take l.count l.sites i no_site k))
+use Rattle.converter.specs.Convert.{outside, has_roll, unfit, list_for, convert_list, convert_plan}
 
 -- whether there is a roll, of a value
 has-roll : (roll : RollArray) {b : Bool} → roll.there ≡ b → has_roll (roll_in roll) ≡ b
@@ -61,41 +49,27 @@ unfit-is l h k = k ∙ ap₂ (λ (x y : Bool). x || y) h (sym (has-roll l.roll r
 abbrev tried : Bool → Outcome Listing → Outcome Listing
 tried back o = bind o (λ (l : Listing). gate (row 21 (back && unfit l) ∷ []) l)
 
--- what is read is taken unless row 21 applies; nothing was read where the rows of a list refuse, so row 21 does not apply
-finds : (back : Bool) (o : Outcome Listing) → (back && unfit (listing (list_read o).list)) ≡ false → list_read o ≡ list_read (tried back o)
-unfolding first_row
-finds back (refused n) h = refl
-finds back (passed l) h =
-    let t : (back && unfit l) ≡ false = subst (λ (k : Listing). (back && unfit k) ≡ false) (listing-array l) h in
-    rw t refl
+-- a list that is refused is not taken
+pub not-read : (w : Way) (s : List ℕ) {n : ℕ} → refused n ≡ list_read (read_list w.from 512 s) → refused n ≡ list_read (list_for w s)
+not-read w s h = rw (list-refused (read_list w.from 512 s) h) refl
 
-turned-back : (o : Outcome Listing) → unfit (listing (list_read o).list) ≡ true → list_read (refused 21) ≡ list_read (tried true o)
-unfolding first_row outside any
-turned-back (refused n) h = let z : ◌≡◌ {A = ℕ} 0 1 = cc in absurd (omega arith)
-turned-back (passed l) h =
-    let t : unfit l ≡ true = subst (λ (k : Listing). unfit k ≡ true) (listing-array l) h in
-    rw t refl
+module _ (w : Way) (s : List ℕ) {x : ListArray} (is : passed x ≡ list_read (read_list w.from 512 s)) where
+  pub few-read : x.count ≤ 512
+  few-read = array-few (read_list w.from 512 s) is w.from s (λ l h. h)
 
-module _ (w : Way) (s : List ℕ) {x : ListRead} (is : x ≡ list_read (read_list w.from 512 s)) where
-  pub few-read : x.list.count ≤ 512
-  few-read = subst (λ (y : ListRead). y.list.count ≤ 512) (sym is) (by_read (read_list w.from 512 s) refl)
-    where
-      by_read : (o : Outcome Listing) → read_list w.from 512 s ≡ o → (list_read o).list.count ≤ 512
-      by_read (refused n) r = omega arith
-      by_read (passed l) r = (list-few w.from 512 s r).0
+  read-is : read_list w.from 512 s ≡ passed (listing x)
+  read-is = list-is (read_list w.from 512 s) is
 
-  pub goes-up : w.back ≡ false → x ≡ list_read (list_for w s)
-  goes-up h = is ∙ finds w.back (read_list w.from 512 s) (rw h refl)
+  -- what is read is taken unless row 21 applies
+  pub is-taken : (w.back && unfit (listing x)) ≡ false → passed x ≡ list_read (list_for w s)
+  unfolding first_row
+  is-taken h =
+      let e : list_for w s ≡ read_list w.from 512 s = rw (read-is, h) refl in
+      is ∙ ap list_read (sym e)
 
-  module _ (back : w.back ≡ true) {t : Bool} (test : t ≡ unfit (listing x.list)) where
-    tested : unfit (listing (list_read (read_list w.from 512 s)).list) ≡ t
-    tested = ap (λ (y : ListRead). unfit (listing y.list)) (sym is) ∙ sym test
-
-    pub goes_down : t ≡ false → x ≡ list_read (list_for w s)
-    goes_down h = is ∙ finds w.back (read_list w.from 512 s) (rw (back, tested, h) refl)
-
-    pub row-21 : t ≡ true → {y : ListRead} → y ≡ list_read (refused 21) → y ≡ list_read (list_for w s)
-    row-21 h k = k ∙ turned-back (read_list w.from 512 s) (tested ∙ h) ∙ ap (λ (b : Bool). list_read (tried b (read_list w.from 512 s))) (sym back)
+  pub row-21 : (w.back && unfit (listing x)) ≡ true → refused 21 ≡ list_read (list_for w s)
+  unfolding first_row
+  row-21 h = rw (read-is, h) refl
 
 -- a list that a way takes is read in its edition, and row 21 does not refuse it going back
 pub taken : (w : Way) (s : List ℕ) {l : Listing} → list_for w s ≡ passed l → (read_list w.from 512 s ≡ passed l) × ((w.back && unfit l) ≡ false)
@@ -109,58 +83,52 @@ taken w s {l} h = by_read (read_list w.from 512 s) refl h
 
 -- ---- by what the list's reader gave back
 
-module _ (w : Way) (s : List ℕ) {x : ListRead} (is : x ≡ list_read (list_for w s)) where
-  refused-is : {n : ℕ} → x.answer ≡ read.Refused n → list_for w s ≡ refused n
-  refused-is h = list-refused-by (list_for w s) is h
+module _ (w : Way) (s : List ℕ) {e : Refusal} (is : refused (number e) ≡ list_read (list_for w s)) where
+  pub list-refuses : (out : List ℕ) → WrittenOf (convert_list w s out) out (Err e) out
+  list-refuses out = rw (list-refused (list_for w s) is) (record { answer = refl; buffer = refl })
 
-  pub list-refuses : {n : ℕ} (out : List ℕ) → x.answer ≡ read.Refused n → WrittenOf (convert_list w s out) out (wrote.Refused n) out
-  list-refuses out h = rw (refused-is h) (record { answer = refl; buffer = refl })
+  pub both-refuses : (plan out other : List ℕ) → WrittenBoth (convert_plan w s plan out other) out other (Err e) out other
+  both-refuses plan out other = rw (list-refused (list_for w s) is) (record { answer = refl; list = refl; plan = refl })
 
-  pub both-refuses : {n : ℕ} (plan out other : List ℕ) → x.answer ≡ read.Refused n → WrittenBoth (convert_plan w s plan out other) out other (both.Refused n) out other
-  both-refuses plan out other h = rw (refused-is h) (record { answer = refl; list = refl; plan = refl })
+module _ (w : Way) (s : List ℕ) {x : ListArray} (is : passed x ≡ list_read (list_for w s)) where
+  -- a list was taken, and it is the array's
+  took : list_for w s ≡ passed (listing x)
+  took = list-is (list_for w s) is
 
-  module _ {n : ℕ} (count : x.answer ≡ read.Count n) where
-    -- a list was taken, and it is the array's
-    took : list_for w s ≡ passed (listing x.list)
-    took = list-is (list_for w s) is count
+  each : length (listing x).sites ≡ x.count
+  each = list-sized (list_for w s) is
 
-    each : length (listing x.list).sites ≡ x.list.count
-    each = list-sized (list_for w s) is count
+  pub few : x.count ≤ 512
+  few = array-few (list_for w s) is w.from s (λ l h. (taken w s h).0)
 
-    pub few : x.list.count ≤ 512
-    few = array-few (list_for w s) is count w.from s (λ l h. (taken w s h).0)
+  pub in-range : T (in_range (listing x))
+  in-range = array-range (list_for w s) is w.from s (λ l h. (taken w s h).0)
 
-    pub in-range : T (in_range (listing x.list))
-    in-range = array-range (list_for w s) is count w.from s (λ l h. (taken w s h).0)
+  pub list_done : (out : List ℕ) {r : Result ℕ Refusal} {last : List ℕ} → Written (list_bytes w.to (listing x)) out r last → WrittenOf (convert_list w s out) out r last
+  list_done out v = rw took v
 
-    pub list_done : (out : List ℕ) {r : Wrote} {last : List ℕ} → Written (list_bytes w.to (listing x.list)) out r last → WrittenOf (convert_list w s out) out r last
-    list_done out v = rw took v
+  -- ---- and the plan's
+  pub plan-refuses : (plan out other : List ℕ) {e : Refusal} → refused (number e) ≡ plan_read (judged_for w.from (listing x) plan)
+      → WrittenBoth (convert_plan w s plan out other) out other (Err e) out other
+  plan-refuses plan out other h = rw (took, plan-refused (judged_for w.from (listing x) plan) h) (record { answer = refl; list = refl; plan = refl })
 
-    -- ---- and the plan's
-    module _ (plan out other : List ℕ) {y : PlanRead} (judged : y ≡ plan_read (judged_for w.from (listing x.list) plan)) where
-      pub plan-refuses : {m : ℕ} → y.answer ≡ read.Refused m → WrittenBoth (convert_plan w s plan out other) out other (both.Refused m) out other
-      plan-refuses h =
-          rw (took, plan-refused-by (judged_for w.from (listing x.list) plan) judged h) (record { answer = refl; list = refl; plan = refl })
+  module _ (plan out other : List ℕ) {y : PlanArray} (judged : passed y ≡ plan_read (judged_for w.from (listing x) plan)) (bytes : Bytes plan) where
+    got : (p : Plan) × (judged_for w.from (listing x) plan ≡ passed p) × (y ≡ plan_array p)
+    got = plan-passed (judged_for w.from (listing x) plan) judged
 
-      module _ (bytes : Bytes plan) {m : ℕ} (groups : y.answer ≡ read.Count m) where
-        got : (p : Plan) × (judged_for w.from (listing x.list) plan ≡ passed p) × (y.plan ≡ plan_array p)
-        got =
-            let k = plan-counted (judged_for w.from (listing x.list) plan) (sym groups ∙ ap (λ (z : PlanRead). z.answer) judged) in
-            (k.0, k.1, ap (λ (z : PlanRead). z.plan) judged ∙ k.3)
+    pub few-groups : y.count ≤ 64
+    few-groups =
+        subst (λ (p : PlanArray). p.count ≤ 64) (sym got.2)
+        (judged-true w.from (listing x) in-range plan got.0 bytes got.1).layout.few
 
-        pub few-groups : y.plan.count ≤ 64
-        few-groups =
-            subst (λ (p : PlanArray). p.count ≤ 64) (sym got.2)
-            (judged-true w.from (listing x.list) in-range plan got.0 bytes got.1).layout.few
+    plan-is : plan_in y x.count ≡ got.0
+    plan-is =
+        let t = judged-true w.from (listing x) in-range plan got.0 bytes got.1 in
+        ap₂ plan_in got.2 (sym each ∙ sym t.layout.each) ∙ plan-array got.0
 
-        plan-is : plan_in y.plan x.list.count ≡ got.0
-        plan-is =
-            let t = judged-true w.from (listing x.list) in-range plan got.0 bytes got.1 in
-            ap₂ plan_in got.2 (sym each ∙ sym t.layout.each) ∙ plan-array got.0
-
-        pub both-done : {r : WroteBoth} {last rest : List ℕ}
-            → WrittenBoth (fitted_both (files w.to (listing x.list) (plan_in y.plan x.list.count)) out other) out other r last rest
-            → WrittenBoth (convert_plan w s plan out other) out other r last rest
-        both-done {r} {last} {rest} v =
-            rw (took, got.1)
-            (subst (λ (p : Plan). WrittenBoth (fitted_both (files w.to (listing x.list) p) out other) out other r last rest) plan-is v)
+    pub both-done : {r : Result Lengths Refusal} {last rest : List ℕ}
+        → WrittenBoth (fitted_both (files w.to (listing x) (plan_in y x.count)) out other) out other r last rest
+        → WrittenBoth (convert_plan w s plan out other) out other r last rest
+    both-done {r} {last} {rest} v =
+        rw (took, got.1)
+        (subst (λ (p : Plan). WrittenBoth (fitted_both (files w.to (listing x) p) out other) out other r last rest) plan-is v)

@@ -16,8 +16,7 @@ use Rattle.density.specs.Network.{Listing, network, site_at, no_site}
 use Rattle.density.specs.Plan.{first_share}
 use Rattle.density.specs.Rows.{row, first_row}
 use Rattle.records.specs.declared.Edition.{Edition}
-use Rattle.records.specs.declared.Wrote.TheVariants.{Length}
-use Rattle.records.specs.declared.WroteBoth.TheVariants.{Lengths}
+use Rattle.std.specs.declared.result.Result.TheVariants.{Ok}
 use Rattle.records.specs.Bytes.{Bytes}
 use Rattle.records.specs.Record.{wrong_mark}
 use Rattle.records.specs.Values.{Plan}
@@ -204,7 +203,7 @@ plan-found w s plan out other {x} h = by-list (list_for w s) refl h
 
 -- ---- a list alone, by the contract of `upgrade_list` and `downgrade_list`
 
-module _ (back : Bool) (s out last : List ℕ) (n : ℕ) (bytes : Bytes s) (c : WrittenOf (convert_list (way back) s out) out (Length n) last) where
+module _ (back : Bool) (s out last : List ℕ) (n : ℕ) (bytes : Bytes s) (c : WrittenOf (convert_list (way back) s out) out (Ok n) last) where
   found : (l : Listing) × (list_for (way back) s ≡ passed l) × (list_bytes (way back).to l ≡ take n last)
   found = list-found (way back) s out (front_of (convert_list (way back) s out) out last n c)
 
@@ -225,7 +224,7 @@ module _ (back : Bool) (s out last : List ℕ) (n : ℕ) (bytes : Bytes s) (c : 
       rw (← wrote, back-taken back s bytes took, other-to back, again back s bytes took) refl
 
   -- so two calls that answer lengths end where they began
-  pub list-returned : (out' last' : List ℕ) (n' : ℕ) → WrittenOf (convert_list (way (not back)) (take n last) out') out' (Length n') last' → take n' last' ≡ s
+  pub list-returned : (out' last' : List ℕ) (n' : ℕ) → WrittenOf (convert_list (way (not back)) (take n last) out') out' (Ok n') last' → take n' last' ≡ s
   list-returned out' last' n' d =
       let h = sym (list-restored out') ∙ front_of (convert_list (way (not back)) (take n last) out') out' last' n' d in
       sym (clear (row 20 (is_short out' s) ∷ []) h).1
@@ -233,7 +232,7 @@ module _ (back : Bool) (s out last : List ℕ) (n : ℕ) (bytes : Bytes s) (c : 
 -- ---- a list with its plan, by the contract of `upgrade_plan` and `downgrade_plan`
 
 module _ (back : Bool) (s plan out other last rest : List ℕ) (n k : ℕ) (bytes : Bytes s) (plan-bytes : Bytes plan)
-    (c : WrittenBoth (convert_plan (way back) s plan out other) out other (Lengths n k) last rest) where
+    (c : WrittenBoth (convert_plan (way back) s plan out other) out other (Ok (record { list = n; plan = k })) last rest) where
   both_found : BothFound (way back) s plan (record { list = take n last; plan = take k rest })
   both_found = plan-found (way back) s plan out other (fronts-of (convert_plan (way back) s plan out other) out other last rest n k c)
 
@@ -292,7 +291,7 @@ module _ (back : Bool) (s plan out other last rest : List ℕ) (n k : ℕ) (byte
 
   -- so two calls that answer lengths end where they began
   pub plan-returned : (out' other' last' rest' : List ℕ) (n' k' : ℕ)
-      → WrittenBoth (convert_plan (way (not back)) (take n last) (take k rest) out' other') out' other' (Lengths n' k') last' rest' → (take n' last' ≡ s) × (take k' rest' ≡ plan)
+      → WrittenBoth (convert_plan (way (not back)) (take n last) (take k rest) out' other') out' other' (Ok (record { list = n'; plan = k' })) last' rest' → (take n' last' ≡ s) × (take k' rest' ≡ plan)
   plan-returned out' other' last' rest' n' k' d =
       let h = sym (plan-restored out' other') ∙ fronts-of (convert_plan (way (not back)) (take n last) (take k rest) out' other') out' other' last' rest' n' k' d in
       let e = (clear (row 20 (is_short out' s) ∷ row 20 (is_short other' plan) ∷ []) h).1 in

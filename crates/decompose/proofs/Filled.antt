@@ -1,16 +1,18 @@
 -- The loops that fill the arrays from a list of sites, and copy the shares out. Assumes nothing.
 use mathlib.Core.Bool.{Bool, false, true}
-use mathlib.Core.List.{List, [], ◌∷◌}
+use mathlib.Core.List.{List, ◌++◌}
 use mathlib.Core.Logic.{⊎_elim}
-use mathlib.Core.Path.{◌∙◌, ◌≡◌, ap, ap₂, refl, subst, sym}
-use Prim.Native.Nat.{◌+◌, ◌<◌, ◌^◌, ◌≤◌, suc, zero, ℕ}
+use mathlib.Core.Path.{◌∙◌, ◌≡◌, ap, subst}
+use Prim.Native.Nat.{◌+◌, ◌<◌, ◌^◌, ◌≤◌, ◌-◌, ℕ}
 use native.Mathlib.Omega.{arith}
-use lib.ListN.{get_or, length, length-set, replicate, set, take}
+use lib.ListN.{drop, get_or, length, length-set, replicate, set, take}
 use lib.Seq.{get_or-set_other, get_or-set_same}
+use Rattle.std.proofs.lemmas.Grind.{common_steps}
+use Rattle.std.proofs.lemmas.List.{get_or-append_right, get_or-drop, take-append-le}
 use Rattle.density.specs.Network.{no_site, end}
 use Rattle.density.specs.declared.Site.{Site}
 use Rattle.residual.specs.Array.{at}
-use Rattle.residual.proofs.Laws.{below?, stored}
+use Rattle.residual.proofs.Laws.{below?}
 use Rattle.attempt.specs.Arrays.{arc}
 use Rattle.attempt.proofs.Laws.{zero-at}
 use Rattle.decompose.specs.Arrays.{Copied, Filling}
@@ -59,33 +61,11 @@ fill-goes {table} {ends} {litres} {ends'} {litres'} {i} x f l e p q small = rw (
 pub fill-ends : {table : List Site} {ends litres : List ℕ} {i n : ℕ} → Filling table ends litres i → i ≡ n → Filling table ends litres n
 fill-ends {table} {ends} {litres} f e = subst (Filling table ends litres) e f
 
--- ---- copying the shares of the first depots
-
-pub record Copying (share out : List ℕ) (i : ℕ) : Type 0 where
-  pub size : length out ≡ 512
-  pub same : (k : ℕ) → k < i → at out k ≡ at share k
-  pub rest : (k : ℕ) → i ≤ k → at out k ≡ 0
-
-pub copy-begins : (share : List ℕ) → Copying share (replicate 512 0) 0
-copy-begins share = record { size = refl; same = λ k l. absurd (omega arith); rest = λ k l. zero-at 512 k }
-
-pub copy_goes : {share out : List ℕ} {i : ℕ} → Copying share out i → i < 512 → Copying share (set out i (at share i)) (i + 1)
-copy_goes {share} {out} {i} c l = record {
-  size = simp length-set c.size;
-  same = λ k m. ⊎_elim
-      (λ z. z.1 ∙ ap (at share) (sym z.0))
-      (λ z. z.1 ∙ c.same k (omega (arith, z.0)))
-      (stored out i (at share i) k (omega (arith, c.size)));
-  rest = λ k m. get_or-set_other out i k (at share i) 0 (λ z. omega arith) ∙ c.rest k (omega arith);
-}
-
--- lists with the same first n elements
-take_same : (n : ℕ) (xs ys : List ℕ) → n ≤ length xs → n ≤ length ys → ((k : ℕ) → k < n → at xs k ≡ at ys k) → take n xs ≡ take n ys
-take_same zero xs ys h l e = refl
-take_same (suc n) [] ys h l e = absurd (omega arith)
-take_same (suc n) (x ∷ xs) [] h l e = absurd (omega arith)
-take_same (suc n) (x ∷ xs) (y ∷ ys) h l e =
-    ap₂ ◌∷◌ (e 0 (omega arith)) (take_same n xs ys (omega arith) (omega arith) (λ k m. e (suc k) (omega arith)))
-
-pub copy-ends : {share out : List ℕ} {i n : ℕ} → Copying share out i → i ≡ n → n ≤ 512 → length share ≡ 1024 → Copied share n out
-copy-ends {share} {out} {i} {n} c e l w = record { first = take_same n out share (omega (arith, c.size)) (omega arith) (λ (k : ℕ) (m : k < n). c.same k (omega arith)); beyond = λ k m. c.rest k (omega arith) }
+-- the shares of the first depots, copied
+pub copied : {share out : List ℕ} (n : ℕ) → out ≡ take n share → n ≤ 512 → length share ≡ 1024 → Copied share n (out ++ drop n (replicate 512 0))
+copied {share} {out} n e h w =
+    let size : length out ≡ n = ap length e ∙ grind (arith, common_steps) in
+    record {
+      first = take-append-le n out (drop n (replicate 512 0)) (omega arith) ∙ ap (take n) e ∙ grind (arith, common_steps);
+      beyond = λ i l. get_or-append_right out (drop n (replicate 512 0)) n i 0 size l ∙ get_or-drop n (replicate 512 0) (i - n) 0 ∙ zero-at 512 (n + (i - n));
+    }

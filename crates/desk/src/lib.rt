@@ -1,5 +1,6 @@
 // The static library of the store, for Rust and C: one function for each call, two for a fresh store, a change and an added site, and one for the step to edition 2, over lent bytes. A store of edition 1 is 2,584 bytes and a place of its table 4, of edition 2 4,704 and 6 (crate `layout`).
 // Where the bytes of a store have another length, every function answers -257 and nothing is written; so do those for one edition where the store is of the other, and the step where the old store is none of edition 1 or the new one none of edition 2.
+// Kept: functions that differ in an edition or a question stand one by one, since C calls each by its name.
 #![tactic(auto)]
 
 ghost use Rattle.std.specs.Prelude.{[]};

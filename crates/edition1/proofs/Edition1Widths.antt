@@ -6,7 +6,7 @@ use mathlib.Core.Option.{none}
 use Prim.Native.Nat.{ℕ, zero, suc, ◌+◌, ◌<◌, ◌≤◌, ◌^◌}
 use native.Mathlib.Omega.{arith}
 use lib.Dec.{ltb, ltb→lt, nltb→le, not_T, lit<}
-use lib.ListN.{length, get_or, take, length-map, get_or-eq_default, replicate, length-replicate}
+use lib.ListN.{length, get_or, take, length-map, get_or-eq_default}
 use lib.Seq.{get_or-take}
 use mir.Val.{Val}
 use denote.Builtin.{u32}
@@ -22,9 +22,9 @@ use Rattle.records.specs.Values.{roll_array}
 use Rattle.records.specs.Format.{edition1}
 use Rattle.table.specs.declared.Site1.{Site1}
 use Rattle.table.specs.Widths.{widened, LitresFit}
-use Rattle.table.proofs.Overlay.{overlay-all, map-take}
+use Rattle.table.proofs.Overlay.{map-take}
 use Rattle.table.proofs.Widths.{fit_at}
-use Rattle.table.proofs.Copies.{Copied, copied-begins, copied-ends, widened-over, stored-fits}
+use Rattle.table.proofs.Copies.{widened-over, stored-fits}
 use Rattle.held_state.specs.declared.Store.{Store}
 use Rattle.edition1.specs.declared.Store1.{Store1}
 use Rattle.store.specs.declared.Request.{Request}
@@ -48,17 +48,6 @@ each_fits (x ∷ l) (u ∷ us) is (suc i) = each_fits l us is.1 i
 
 pub shares-fit : (n : ℕ) (l : List ℕ) (vs : List Val) → Is (Array u32 n) l vs → (i : ℕ) → get_or l i 0 < 2 ^ 32
 shares-fit n l vs is = each_fits l is.0 is.1.1
-
--- n places, all zero, to which the n figures of a list are copied
-abbrev pub CopiedAll : Type 0 → ℕ → List ℕ → List ℕ → ℕ → Type 0
-CopiedAll P n l a i = Copied P n l (replicate n 0) a i
-
-module _ {P : Type 0} {n : ℕ} {l : List ℕ} (long : length l ≡ n) where
-  pub all-begins : CopiedAll P n l (replicate n 0) 0
-  all-begins = copied-begins (omega arith) (omega (arith, length-replicate {A = ℕ} n 0))
-
-  pub all-ends : {a : List ℕ} {i : ℕ} → CopiedAll P n l a i → n ≤ i → P → a ≡ l
-  all-ends m h p = copied-ends m h p ∙ overlay-all l (replicate n 0) n (omega arith) (omega (arith, length-replicate {A = ℕ} n 0))
 
 -- the litres of the first 512 places of a table are those of the sites that stand for it
 table_fits : (places : ℕ) (l : List Site) (table : List Site) → places ≡ length table → take places l ≡ take 512 table → LitresFit l

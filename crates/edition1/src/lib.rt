@@ -8,13 +8,14 @@ ghost use Rattle.store.specs.Widths.{Named};
 ghost use Rattle.edition1.specs.Edition1.{store_of1, request_of1, fresh1, Typed1, Served1};
 
 use held_state::Store;
-use records::{edition1, no_roll};
+use records::{Refusal, edition1, no_roll};
 use serve::serve;
 use store::{Answer, Request};
 use table::values::narrow_first;
 use table::{Site1, widen_all};
 
 // Edition 1: the store by its widths, a share in 32 bits.
+// Kept: a flag and a count side by side, as in `held_state::Store`.
 #[derive(Clone, Copy)]
 pub struct Store1 {
     pub count: usize,
@@ -41,7 +42,7 @@ pub enum Request1 {
 
 #[derive(Clone, Copy)]
 pub struct Decision1 {
-    pub answer: Answer,
+    pub answer: Result<Answer, Refusal>,
     pub store: Store1,
     pub sites: [Site1; 512],
     pub n: usize,
@@ -50,7 +51,7 @@ pub struct Decision1 {
 // What a call of edition 1 gives back.
 #[derive(Clone, Copy)]
 pub struct Out1 {
-    pub answer: Answer,
+    pub answer: Result<Answer, Refusal>,
     pub store: Store1,
 }
 
@@ -71,53 +72,43 @@ pub fn fresh1() -> Store1
 fn widen_shares(shares: [u32; 512]) -> [u64; 512]
     ensures { (result ≡ shares) × ((i : ℕ) → get_or result i 0 < 2 ^ 32) }
 {
-    let mut a = [0u64; 512];
-    let mut i: usize = 0;
-    while i < 512 {
-        a[i] = shares[i] as u64;
-        i += 1;
+    shares.map(u64::from)
+}
+
+// The store by the widths of the definition: its shares have 32 bits, and it has no roll.
+impl From<Store1> for Store {
+    ghost from_gives = { λ s r. (r ≡ store_of1 s) × ((i : ℕ) → get_or r.shares i 0 < 2 ^ 32) };
+
+    fn from(s: Store1) -> Store {
+        // Kept: an array goes into a struct by a variable.
+        let groups = s.groups;
+        let shares = widen_shares(s.shares);
+        Store {
+            count: s.count,
+            held: s.held,
+            grouped: s.grouped,
+            groups,
+            shares,
+            roll: no_roll(),
+        }
     }
-    a
 }
 
 // The shares narrow, if they fit: whether they do follows from the step, and not from their type.
 fn narrow_shares(shares: [u64; 512]) -> [u32; 512]
     ensures { ((i : ℕ) → get_or shares i 0 < 2 ^ 32) → result ≡ shares }
 {
-    let mut a = [0u32; 512];
-    let mut i: usize = 0;
-    while i < 512 {
-        a[i] = (shares[i] % 4294967296) as u32;
-        i += 1;
-    }
-    a
-}
-
-// The store by the widths of the definition: its shares have 32 bits, and it has no roll.
-pub fn widen_store(s: Store1) -> Store
-    ensures { (result ≡ store_of1 s) × ((i : ℕ) → get_or result.shares i 0 < 2 ^ 32) }
-{
-    let groups = s.groups;
-    let narrow = s.shares;
-    let shares = widen_shares(narrow);
-    let roll = no_roll();
-    Store {
-        count: s.count,
-        held: s.held,
-        grouped: s.grouped,
-        groups,
-        shares,
-        roll,
-    }
+    shares.map(|share| (share % 4294967296) as u32)
 }
 
 // The store by the widths of edition 1, if its shares fit and it has no roll.
+// Kept: TryFrom would test at run time what the steps prove.
 pub fn narrow_store(s: Store) -> Store1
     ensures { ((i : ℕ) → get_or s.shares i 0 < 2 ^ 32) → s.roll ≡ roll_array none → store_of1 result ≡ s }
 {
+    // Kept: an array goes into a struct by a variable.
     let groups = s.groups;
-    let wide = s.shares;
-    let shares = narrow_shares(wide);
+    let shares = narrow_shares(s.shares);
     Store1 {
         count: s.count,
         held: s.held,
@@ -128,20 +119,22 @@ pub fn narrow_store(s: Store) -> Store1
 }
 
 // The request; the litres that it names have 16 bits.
-pub fn widen_request(q: Request1) -> Request
-    ensures { (result ≡ request_of1 q) × Named (2 ^ 16) result }
-{
-    match q {
-        Request1::Load => Request::Load,
-        Request1::Change(i, w) => Request::Change(i, w as u32),
-        Request1::Add(f, s, w) => Request::Add(f, s, w as u32),
-        Request1::Propose => Request::Propose,
-        Request1::Share(i) => Request::Share(i),
-        Request1::Depot(d) => Request::Depot(d),
-        Request1::Difference(a, b) => Request::Difference(a, b),
-        Request1::Written => Request::Written,
-        Request1::AtLeast(m) => Request::AtLeast(m),
-        Request1::ListWritten => Request::ListWritten,
+impl From<Request1> for Request {
+    ghost from_gives = { λ q r. (r ≡ request_of1 q) × Named (2 ^ 16) r };
+
+    fn from(q: Request1) -> Request {
+        match q {
+            Request1::Load => Request::Load,
+            Request1::Change(i, w) => Request::Change(i, u32::from(w)),
+            Request1::Add(f, s, w) => Request::Add(f, s, u32::from(w)),
+            Request1::Propose => Request::Propose,
+            Request1::Share(i) => Request::Share(i),
+            Request1::Depot(d) => Request::Depot(d),
+            Request1::Difference(a, b) => Request::Difference(a, b),
+            Request1::Written => Request::Written,
+            Request1::AtLeast(m) => Request::AtLeast(m),
+            Request1::ListWritten => Request::ListWritten,
+        }
     }
 }
 
@@ -156,20 +149,15 @@ pub fn serve1(
 ) -> Decision1
     ensures { Typed1 request input.now × Served1 store sites places request input.now buffer.old result buffer.new }
 {
-    let wide = widen_store(store);
+    let wide = Store::from(store);
     let all = widen_all(sites);
-    let asked = widen_request(request);
+    let asked = Request::from(request);
     let d = serve(edition1(), wide, all, places, asked, input, buffer);
-    let answer = d.answer;
-    let n = d.n;
-    let held = d.store;
-    let left = d.sites;
-    let store = narrow_store(held);
-    let sites = narrow_first(left, n);
+    let sites = narrow_first(d.sites, d.n);
     Decision1 {
-        answer,
-        store,
+        answer: d.answer,
+        store: narrow_store(d.store),
         sites,
-        n,
+        n: d.n,
     }
 }

@@ -5,15 +5,16 @@ use mathlib.Core.List.{List, [], ◌∷◌}
 use mathlib.Core.Option.{none}
 use mathlib.Core.Path.{◌≡◌, refl, sym, ap, subst, ◌∙◌}
 use native.Mathlib.Omega.{arith}
-use lib.IntN.{pos}
+use lib.IntN.{pos, neg_ℤ}
 use lib.ListN.{length}
 use Rattle.density.specs.Network.{Listing, network}
 use Rattle.density.specs.Groups.{groups_of}
 use Rattle.density.specs.Rows.{row}
 use Rattle.records.specs.declared.Edition.{Edition}
-use Rattle.records.specs.declared.Wrote.{Wrote}
-use Rattle.records.specs.declared.Wrote.TheVariants.{Length, Refused}
-use Rattle.records.specs.declared.WroteBoth.TheVariants as both
+use Rattle.std.specs.declared.result.Result.{Result}
+use Rattle.std.specs.declared.result.Result.TheVariants.{Ok, Err}
+use Rattle.records.specs.declared.refusal.Refusal.{Refusal}
+use Rattle.records.specs.Refusals.{number, outcome}
 use Rattle.records.specs.Values.{Plan}
 use Rattle.records.specs.Outcome.{Outcome, refused, passed}
 use Rattle.records.specs.Format.{read_list}
@@ -40,39 +41,43 @@ unfolding check_row
 check-passes e list plan =
     zero-passes (judged e list plan) (bind-numbered (read_list e 512 list) _ (list-numbered e 512 list) (λ (l : Listing). judged-numbered e l plan))
 
-not-row-0 : (o : Outcome (List ℕ)) → ((n : ℕ) → o ≡ refused n → 0 < n) → Refused 0 ≡ wrote_of o → ⊥
+not-row-0 : (o : Outcome (List ℕ)) → ((n : ℕ) → o ≡ refused n → 0 < n) → refused 0 ≡ wrote_of o → ⊥
 not-row-0 (refused n) h e = let l = h n refl in let z : ◌≡◌ {A = ℕ} 0 n = cc in omega arith
 not-row-0 (passed bytes) h e = let z : ◌≡◌ {A = ℕ} 0 1 = cc in omega arith
 
-made_row : (e : Edition) (o : Outcome Listing) (out last : List ℕ) → ((n : ℕ) → o ≡ refused n → 0 < n) → Made e o out (Refused 0) last → ⊥
-made_row e (refused n) out last h m = let l = h n refl in let g = m.0 in let z : ◌≡◌ {A = ℕ} 0 n = cc in omega arith
-made_row e (passed l) out last h m =
+made_row : (e : Edition) (o : Outcome Listing) (out last : List ℕ) (x : Refusal) → number x ≡ 0 → ((n : ℕ) → o ≡ refused n → 0 < n) → Made e o out (Err x) last → ⊥
+made_row e (refused n) out last x z h m = let l = h n refl in let g = m.0 in let k : ◌≡◌ {A = ℕ} 0 n = cc in omega arith
+made_row e (passed l) out last x z h m =
     let bytes = plan_bytes e (record { groups = groups_of (network l); shares = m.shares }) in
-    not-row-0 (fitted bytes out) (gate-numbered (row 20 (is_short out bytes) ∷ []) tt bytes) m.written.answer
+    not-row-0 (fitted bytes out) (gate-numbered (row 20 (is_short out bytes) ∷ []) tt bytes) (ap refused (sym z) ∙ m.written.answer)
+
+-- a code that is not negative is no row's but 0
+neg-zero : (n k : ℕ) → pos n ≡ neg_ℤ (pos k) → k ≡ 0
+neg-zero n zero c = refl
+neg-zero n (suc k) c = let z : ◌≡◌ {A = ℕ} 0 1 = cc in absurd (omega arith)
 
 -- Make answers a number that is not negative only where a plan of that length is written
-pub make-writes : (e : Edition) (list out last : List ℕ) (n : ℕ) → MadeCode e (read_list e 512 list) out (pos n) last → Made e (read_list e 512 list) out (Length n) last
+pub make-writes : (e : Edition) (list out last : List ℕ) (n : ℕ) → MadeCode e (read_list e 512 list) out (pos n) last → Made e (read_list e 512 list) out (Ok n) last
 make-writes e list out last n m = by m.wrote m.made m.code
   where
-    by : (w : Wrote) → Made e (read_list e 512 list) out w last → pos n ≡ wrote_code w → Made e (read_list e 512 list) out (Length n) last
-    by (Length k) h c = let z : n ≡ k = cc in subst (λ (x : ℕ). Made e (read_list e 512 list) out (Length x) last) (sym z) h
-    by (Refused zero) h c = absurd (made_row e (read_list e 512 list) out last (list-numbered e 512 list) h)
-    by (Refused (suc k)) h c = let z : ◌≡◌ {A = ℕ} 0 1 = cc in absurd (omega arith)
+    by : (w : Result ℕ Refusal) → Made e (read_list e 512 list) out w last → pos n ≡ wrote_code (outcome w) → Made e (read_list e 512 list) out (Ok n) last
+    by (Ok k) h c = let z : n ≡ k = cc in subst (λ (x : ℕ). Made e (read_list e 512 list) out (Ok x) last) (sym z) h
+    by (Err x) h c = absurd (made_row e (read_list e 512 list) out last x (neg-zero n (number x) c) (list-numbered e 512 list) h)
 
 -- ---- the converters
 
 -- a converter answers a number that is not negative only where a list of that length is written
-pub list-code-writes : (w : Way) (s out last : List ℕ) (n : ℕ) → ListCode (convert_list w s out) out (pos n) last → WrittenOf (convert_list w s out) out (Length n) last
+pub list-code-writes : (w : Way) (s out last : List ℕ) (n : ℕ) → ListCode (convert_list w s out) out (pos n) last → WrittenOf (convert_list w s out) out (Ok n) last
 list-code-writes w s out last n m = record { answer = by_code (convert_list w s out) (list-row-numbered w s out) m.code; buffer = m.buffer }
   where
-    by_code : (o : Outcome (List ℕ)) → ((k : ℕ) → o ≡ refused k → 0 < k) → pos n ≡ wrote_code (wrote_of o) → Length n ≡ wrote_of o
+    by_code : (o : Outcome (List ℕ)) → ((k : ℕ) → o ≡ refused k → 0 < k) → pos n ≡ wrote_code (wrote_of o) → passed n ≡ wrote_of o
     by_code (refused zero) h c = let l = h 0 refl in absurd (omega arith)
     by_code (refused (suc k)) h c = let z : ◌≡◌ {A = ℕ} 0 1 = cc in absurd (omega arith)
-    by_code (passed bytes) h c = let z : n ≡ length bytes = cc in ap Length z
+    by_code (passed bytes) h c = let z : n ≡ length bytes = cc in ap passed z
 
 -- and with a plan only where both are written, the plan's length being in its place
 pub both-code-writes : (w : Way) (s plan out other last rest : List ℕ) (n x x' : ℕ) → BothCode (convert_plan w s plan out other) out other x (pos n) last rest x'
-    → WrittenBoth (convert_plan w s plan out other) out other (both.Lengths n x') last rest
+    → WrittenBoth (convert_plan w s plan out other) out other (Ok (record { list = n; plan = x' })) last rest
 both-code-writes w s plan out other last rest n x x' m =
     record {
       answer = by_code (convert_plan w s plan out other) (plan-row-numbered w s plan out other) m.code m.plan-length;
@@ -80,7 +85,8 @@ both-code-writes w s plan out other last rest n x x' m =
       plan = m.plan;
     }
   where
-    by_code : (o : Outcome Files) → ((k : ℕ) → o ≡ refused k → 0 < k) → pos n ≡ both_code (wrote_both_of o) → x' ≡ plan_length_in (wrote_both_of o) x → both.Lengths n x' ≡ wrote_both_of o
+    by_code : (o : Outcome Files) → ((k : ℕ) → o ≡ refused k → 0 < k) → pos n ≡ both_code (wrote_both_of o) → x' ≡ plan_length_in (wrote_both_of o) x
+        → passed (record { list = n; plan = x' }) ≡ wrote_both_of o
     by_code (refused zero) h c l = let z = h 0 refl in absurd (omega arith)
     by_code (refused (suc k)) h c l = let z : ◌≡◌ {A = ℕ} 0 1 = cc in absurd (omega arith)
-    by_code (passed f) h c l = let z : n ≡ length f.list = cc in ap (λ (k : ℕ). both.Lengths k x') z ∙ ap (both.Lengths (length f.list)) l
+    by_code (passed f) h c l = let z : n ≡ length f.list = cc in rw (z, l) refl

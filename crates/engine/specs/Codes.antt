@@ -3,11 +3,11 @@ use Rattle.std.specs.Prelude.{ℕ, List, ◌≡◌, ℤ, pos, neg_ℤ}
 use Rattle.std.proofs.Math.Option.{Option, none, some}
 use Rattle.density.specs.Network.{Listing}
 use Rattle.records.specs.declared.Edition.{Edition}
-use Rattle.records.specs.declared.Wrote.{Wrote}
-use Rattle.records.specs.declared.Wrote.TheVariants.{Length, Refused}
-use Rattle.records.specs.declared.WroteBoth.{WroteBoth}
-use Rattle.records.specs.declared.WroteBoth.TheVariants as both
-use Rattle.records.specs.Outcome.{Outcome}
+use Rattle.std.specs.declared.result.Result.{Result}
+use Rattle.records.specs.declared.Lengths.{Lengths}
+use Rattle.records.specs.declared.refusal.Refusal.{Refusal}
+use Rattle.records.specs.Refusals.{outcome}
+use Rattle.records.specs.Outcome.{Outcome, refused, passed}
 use Rattle.records.specs.Write.{wrote_of, buffer_of}
 use Rattle.records.specs.Files.{Files, wrote_both_of, list_part, plan_part}
 use Rattle.maker.specs.Make.{Made}
@@ -18,25 +18,25 @@ check_code none = pos 0
 check_code (some n) = neg_ℤ (pos n)
 
 -- "every writer answers the length it wrote" (document 02, b), Make the plan's: the length, or the row's number with a minus sign
-abbrev pub wrote_code : Wrote → ℤ
-wrote_code (Length n) = pos n
-wrote_code (Refused n) = neg_ℤ (pos n)
+abbrev pub wrote_code : Outcome ℕ → ℤ
+wrote_code (passed n) = pos n
+wrote_code (refused n) = neg_ℤ (pos n)
 
 -- Make, its answer as a number
 pub record MadeCode (e : Edition) (l : Outcome Listing) (out : List ℕ) (r : ℤ) (last : List ℕ) : Type 0 where
-  pub wrote : Wrote
+  pub wrote : Result ℕ Refusal
   pub made : Made e l out wrote last
-  pub code : r ≡ wrote_code wrote
+  pub code : r ≡ wrote_code (outcome wrote)
 
 -- Document 02, d: a list and its plan converted. "the list's first where it writes two" (b): the list's length, or the row's number with a minus sign
-abbrev pub both_code : WroteBoth → ℤ
-both_code (both.Lengths n k) = pos n
-both_code (both.Refused n) = neg_ℤ (pos n)
+abbrev pub both_code : Outcome Lengths → ℤ
+both_code (passed x) = pos x.list
+both_code (refused n) = neg_ℤ (pos n)
 
 -- the plan's length; where a row refuses, what was there
-abbrev pub plan_length_in : WroteBoth → ℕ → ℕ
-plan_length_in (both.Lengths n k) len = k
-plan_length_in (both.Refused n) len = len
+abbrev pub plan_length_in : Outcome Lengths → ℕ → ℕ
+plan_length_in (passed x) len = x.plan
+plan_length_in (refused n) len = len
 
 -- a list converted, the answer as a number
 pub record ListCode (o : Outcome (List ℕ)) (out : List ℕ) (r : ℤ) (last : List ℕ) : Type 0 where

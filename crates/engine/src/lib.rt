@@ -1,37 +1,34 @@
 // The static library for Rust and C: Check, Make and files between editions, each answered by a number; where a list and its plan are written, the plan's length goes beside it.
+// Kept: functions that differ in an edition or a way stand one by one, since C calls each by its name.
 #![tactic(auto)]
 
-ghost use Rattle.std.specs.Prelude.{◌≡◌, ℕ, ◌<◌, ◌^◌};
-ghost use Rattle.records.specs.declared.Wrote.TheVariants as one;
-ghost use Rattle.records.specs.declared.WroteBoth.TheVariants as both;
+ghost use Rattle.std.specs.Prelude.{◌≡◌, ◌<◌, ◌^◌, IfOk};
+ghost use Rattle.records.specs.declared.Lengths.{Lengths};
+ghost use Rattle.records.specs.Refusals.{outcome};
 ghost use Rattle.records.specs.Format.{edition_of, read_list};
 ghost use Rattle.judge.specs.Check.{check_row};
 ghost use Rattle.converter.specs.Convert.{upgrade, downgrade, convert_list, convert_plan};
 ghost use Rattle.engine.specs.Codes.{check_code, wrote_code, MadeCode, both_code, plan_length_in, ListCode, BothCode};
 
-use records::{Wrote, WroteBoth};
+use records::{Lengths, Refusal};
 use signed::{length, refused};
-use tables::Verdict;
 
 // Check: 0 where the plan passes; where a row refuses, its number with a minus sign.
 #[unsafe(no_mangle)]
 pub extern "C" fn sulgheti_check(list: &[u8], plan: &[u8]) -> i64
     ensures { result ≡ check_code (check_row (edition_of list.now) list.now plan.now) }
 {
-    match judge::check(list, plan) {
-        Verdict::Passes => 0,
-        Verdict::Refused(n) => refused(n),
-    }
+    wrote_code(judge::check(list, plan).map(|()| 0))
 }
 
 // The length written, or the row's number with a minus sign.
-fn wrote_code(w: Wrote) -> i64
-    requires { (n : ℕ) → w ≡ one.Length n → n < 2 ^ 63 }
-    ensures { result ≡ wrote_code w }
+fn wrote_code(answer: Result<usize, Refusal>) -> i64
+    requires { IfOk answer (λ n. n < 2 ^ 63) }
+    ensures { result ≡ wrote_code (outcome answer) }
 {
-    match w {
-        Wrote::Length(n) => length(n),
-        Wrote::Refused(n) => refused(n),
+    match answer {
+        Ok(n) => length(n),
+        Err(row) => refused(row.number()),
     }
 }
 
@@ -63,17 +60,14 @@ pub extern "C" fn sulgheti_downgrade_list(list: &[u8], out: &mut [u8]) -> i64
 }
 
 // The list's length, the plan's going to `len`; or the row's number with a minus sign, `len` being left as it was.
-fn both_code(w: WroteBoth, len: &mut usize) -> i64
-    requires { (n k : ℕ) → w ≡ both.Lengths n k → n < 2 ^ 63 }
-    ensures { (result ≡ both_code w) × (len.new ≡ plan_length_in w len.old) }
+fn both_code(answer: Result<Lengths, Refusal>, len: &mut usize) -> i64
+    requires { IfOk answer (λ (x : Lengths). x.list < 2 ^ 63) }
+    ensures { (result ≡ both_code (outcome answer)) × (len.new ≡ plan_length_in (outcome answer) len.old) }
 {
-    match w {
-        WroteBoth::Lengths(n, k) => {
-            *len = k;
-            length(n)
-        }
-        WroteBoth::Refused(n) => refused(n),
+    if let Ok(lengths) = answer {
+        *len = lengths.plan;
     }
+    wrote_code(answer.map(|lengths| lengths.list))
 }
 
 // A list and its plan, up; the plan's length goes to `len`.

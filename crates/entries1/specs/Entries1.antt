@@ -6,7 +6,7 @@ use Rattle.edition1.specs.declared.Decision1.{Decision1}
 use Rattle.edition1.specs.declared.Out1.{Out1}
 use Rattle.edition1.specs.Edition1.{entry1}
 use Rattle.store.specs.Calls.{Event, Reply}
-use Rattle.serve.specs.Entries.{Passed, event, Result, replied, Called, Calls, first, CalledOn, CallsOn}
+use Rattle.serve.specs.Entries.{Passed, event, Returned, replied, Called, Calls, first, CalledOn, CallsOn}
 
 -- what the entry gives back of a decision
 abbrev pub out_of : Decision1 → Out1
@@ -20,7 +20,7 @@ abbrev pub event1 : Passed1 → Event
 event1 = event entry1
 
 abbrev pub Result1 : Type 0
-Result1 = Result entry1
+Result1 = Returned entry1
 
 abbrev pub replied1 : Result1 → Reply
 replied1 = replied entry1

@@ -6,15 +6,17 @@ ghost use Rattle.store.specs.State.{step};
 ghost use Rattle.edition1.specs.Edition1.{view1, request_of1, call_of1, Typed1, turned1};
 ghost use Rattle.serve.specs.Stored.{stored_of};
 
-use edition1::{Out1, Request1, Store1, serve1, widen_request};
-use serve::{Places, stored};
-use store::Answer;
-use table::{Site1, places_on};
+use edition1::{Out1, Request1, Store1, serve1};
+use records::Refusal;
+use serve::stored;
+use std::ops::Range;
+use store::{Answer, Request};
+use table::{NO_SITE1, Site1, places_on};
 
 // What a call gives back to a program that owns its table.
 #[derive(Clone, Copy)]
 pub struct OutOn1 {
-    pub answer: Answer,
+    pub answer: Result<Answer, Refusal>,
     pub store: Store1,
     pub table: [Site1; 600],
 }
@@ -41,10 +43,10 @@ pub fn call_on1(
 }
 
 // Which of the first n places a call stores, at a store with so many sites.
-fn stored1(request: Request1, count: usize, n: usize) -> Places
+fn stored1(request: Request1, count: usize, n: usize) -> Range<usize>
     ensures { result ≡ stored_of (request_of1 request) count n }
 {
-    stored(widen_request(request), count, n)
+    stored(Request::from(request), count, n)
 }
 
 // A call, over a lent table. Four calls and no branch.
@@ -57,10 +59,10 @@ pub fn call1(
 ) -> Out1
     ensures { Typed1 request input.now × (turned1 result table.new buffer.new ≡ step (view1 store table.old) (call_of1 request input.now buffer.old)) }
 {
-    let sites = table::held1(table);
+    let sites = table::held(table, NO_SITE1);
     let d = serve1(store, sites, table.len(), request, input, buffer);
     let places = stored1(request, store.count, d.n);
-    table::store1(table, d.sites, places.from, places.to);
+    table::store(table, d.sites, places.start, places.end);
     Out1 {
         answer: d.answer,
         store: d.store,

@@ -1,39 +1,22 @@
 -- The tables of the plan made hold the figures of the definition. Assumes nothing.
-use mathlib.Core.Path.{◌≡◌, refl}
+use mathlib.Core.Path.{◌≡◌}
 use mathlib.Core.List.{List}
 use Prim.Native.Nat.{ℕ, ◌≤◌}
 use native.Mathlib.Omega.{arith}
-use lib.Dec.{T, lit≤}
+use lib.Dec.{T}
 use lib.ListN.{length}
-use Rattle.sets.specs.Sum.{all, any}
-use Rattle.density.specs.Network.{Listing, network, depots_in_range, crews_above, sites_uncrewed, in_range}
+use Rattle.density.specs.Network.{Listing, network, in_range}
 use Rattle.density.specs.Plan.{place, group_size}
 use Rattle.density.proofs.Lists.{valid}
 use Rattle.density.proofs.Plans.{complete}
 use Rattle.records.specs.declared.ListArray.{ListArray}
 use Rattle.records.specs.declared.PlanArray.{PlanArray}
-use Rattle.records.specs.declared.ListRead.{ListRead}
 use Rattle.records.specs.Values.{roll_in, listing}
-use Rattle.records.specs.Outcome.{Outcome, refused, passed}
-use Rattle.records.specs.declared.Edition.{Edition}
-use Rattle.records.specs.Format.{read_list}
-use Rattle.records.specs.Answer.{list_read}
 use Rattle.tables.specs.Tables.{net, groups_in, Holds, Ready, Tables, Litres, Placed}
 use Rattle.tables.proofs.Verdicts.{tables}
 use Rattle.tables.proofs.Shares.{placed}
 use Rattle.maker.specs.Planned.{Planned}
-use Rattle.maker.proofs.Made.{in-range}
-use Rattle.figures.specs.declared.Figures.{Figures}
-use Rattle.figures.specs.Computed.{Computed, Of}
-
--- a list that is read, also an empty one for a refused list, has at most 512 sites, and its depots are numbers from 0 to 63
-pub read-in-range : (e : Edition) (s : List ℕ) (x : ListRead) → x ≡ list_read (read_list e 512 s) → (x.list.count ≤ 512) × T (in_range (listing x.list))
-unfolding in_range depots_in_range crews_above sites_uncrewed all any
-read-in-range e s x is = by-outcome (read_list e 512 s) refl is
-  where
-    by-outcome : (o : Outcome Listing) → read_list e 512 s ≡ o → x ≡ list_read o → (x.list.count ≤ 512) × T (in_range (listing x.list))
-    by-outcome (refused n) h k = rw k (lit≤ tt, tt)
-    by-outcome (passed l) h k = in-range e s x (length l.sites) (rw h k) (rw k)
+use Rattle.figures.specs.Computed.{Computed}
 
 module _ (list : ListArray) (plan : PlanArray) (few : list.count ≤ 512) (range : T (in_range (listing list))) (p : Planned list plan)
     (wide : length list.sites ≡ 512) (deep : length plan.groups ≡ 64) where
@@ -63,7 +46,3 @@ module _ (list : ListArray) (plan : PlanArray) (few : list.count ≤ 512) (range
           length-litres = lw;
           litres = λ n l. w.is (groups_in list plan) h n (omega (arith, p.few));
         }
-
--- the answer of the reader, with the figures of the list that it read
-pub found : (e : Edition) (s : List ℕ) (x : ListRead) (f : Figures) → x ≡ list_read (read_list e 512 s) → f.list ≡ x.list → Computed f → Of e s (record { answer = x.answer; figures = f })
-found e s x f is same k = record { read = rw same is; computed = k }

@@ -6,7 +6,7 @@ ghost use Rattle.density.specs.Network.{in_range};
 ghost use Rattle.records.specs.Values.{listing};
 ghost use Rattle.figures.specs.Computed.{Computed, Of};
 
-use records::{Edition, ListArray, PlanArray, Read};
+use records::{Edition, ListArray, PlanArray, Refusal};
 
 // A list, the plan made for it, the place of each depot, and q and W of each group.
 #[derive(Clone, Copy)]
@@ -18,25 +18,15 @@ pub struct Figures {
     pub litres: [u64; 64],
 }
 
-// What the bytes of a list give: how many sites it has or the row that refuses it, and the figures of the list, which is empty where it is refused.
-#[derive(Clone, Copy)]
-pub struct Found {
-    pub answer: Read,
-    pub figures: Figures,
-}
-
 // The figures of a list.
 fn of_list(list: ListArray) -> Figures
     requires { (list.count ≤ 512) × T (in_range (listing list)) }
     ensures { (result.list ≡ list) × Computed result }
 {
     let plan = maker::make_plan(list);
-    let n = plan.count;
-    let sets = plan.groups;
-    let groups = &sets[..n];
+    let groups = &plan.groups[..plan.count];
     let places = tables::places(groups);
-    let roll = list.roll;
-    let sizes = tables::sizes(roll, groups);
+    let sizes = tables::sizes(list.roll, groups);
     let litres = tables::litres(list, &places);
     Figures {
         list,
@@ -47,14 +37,11 @@ fn of_list(list: ListArray) -> Figures
     }
 }
 
-// Reads a list of an edition, and computes its figures.
-pub fn read(e: Edition, input: &[u8]) -> Found
+// Reads a list of an edition, and computes its figures; or the row that refuses it.
+pub fn read(e: Edition, input: &[u8]) -> Result<Figures, Refusal>
     requires { e.litres ≤ 4 }
     ensures { Of e input.now result }
 {
-    let found = readers::list::read(e, 512, input);
-    let answer = found.answer;
-    let list = found.list;
-    let figures = of_list(list);
-    Found { answer, figures }
+    let list = readers::list::read(e, 512, input)?;
+    Ok(of_list(list))
 }

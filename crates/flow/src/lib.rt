@@ -2,7 +2,7 @@
 // The arrays are those of residual.
 #![tactic(auto)]
 
-ghost use Rattle.std.specs.Prelude.{◌≡◌, ◌-◌, ◌<◌, length};
+ghost use Rattle.std.specs.Prelude.{◌≡◌, ◌<◌, length};
 ghost use Rattle.residual.specs.Rounds.{Excess, Depots, Tested, Found, AllDischarged, Seeded, Start, Relaxed};
 ghost use Rattle.residual.specs.Moves.{Loaded, Ranked, Discharged};
 ghost use Rattle.residual.specs.Search.{Queue, Placed, Linked, Linking, Prepended};
@@ -23,6 +23,7 @@ fn discharge(
     ensures { Discharged ends.now rank.now target.now u 0 share.old load.old share.new load.new }
 {
     let mut j = chain[1024 + u];
+    // Kept: each arc of the chain names the next; an iterator would have to carry that each is in range.
     while 0 < j {
         push::push_excess(ends, rank, target, u, j - 1, share, load);
         j = chain[j - 1];
@@ -35,15 +36,10 @@ fn any_excess(order: &[usize], n: usize, target: &[u64], load: &[u64]) -> bool
     requires depots { Depots order.now n }
     ensures { Tested order.now target.now load.now n result }
 {
-    let mut k: usize = 0;
-    while k < n {
-        let d = order[k];
-        let goal = target[d];
-        let have = load[d];
-        if goal < have {
+    for &d in &order[..n] {
+        if target[d] < load[d] {
             return true;
         }
-        k += 1;
     }
     false
 }
@@ -66,22 +62,9 @@ fn discharge_all(
     requires excess { Excess order.now target.now load.old start n }
     ensures { AllDischarged ends.now rank.now target.now share.old load.old share.new load.new }
 {
-    let mut k = n;
-    while start < k {
-        k -= 1;
-        let u = order[k];
-        discharge(ends, chain, rank, target, u, share, load);
+    for k in (start..n).rev() {
+        discharge(ends, chain, rank, target, order[k], share, load);
     }
-}
-
-// What `have` lacks of `goal`.
-fn deficit(have: u64, goal: u64) -> u64
-    ensures { result ≡ goal - have }
-{
-    if have < goal {
-        return goal - have;
-    }
-    0
 }
 
 // Begins the order with the depots below their targets.
@@ -90,11 +73,9 @@ fn seeds(target: &[u64], load: &[u64], order: &mut [usize], rank: &mut [usize]) 
     requires queue { Queue 0 order.old rank.old }
     ensures { Seeded target.now load.now rank.old result order.new rank.new }
 {
-    let mut n: usize = 0;
-    let mut d: usize = 0;
-    while d < 64 {
-        n = residual::enqueue(deficit(load[d], target[d]), d, n, order, rank);
-        d += 1;
+    let mut n = 0;
+    for d in 0..64 {
+        n = residual::enqueue(target[d].saturating_sub(load[d]), d, n, order, rank);
     }
     n
 }
@@ -113,6 +94,7 @@ pub fn relax(
     requires loaded { Loaded ends.now share.old load.old }
     ensures { Relaxed ends.now target.now rank.old share.old load.old result rank.new share.new load.new }
 {
+    // Kept: whether another round follows is known only in the midst of one.
     loop {
         ranks::clear(rank);
         let start = seeds(target, load, order, rank);
@@ -142,9 +124,7 @@ pub fn link(ends: &[usize], chain: &mut [usize])
     requires { Linking ends.now chain.old 0 }
     ensures { Linked ends.now chain.new }
 {
-    let mut j: usize = 0;
-    while j < 1024 {
-        prepend(ends[j], j, chain);
-        j += 1;
+    for (j, &e) in ends.iter().enumerate() {
+        prepend(e, j, chain);
     }
 }

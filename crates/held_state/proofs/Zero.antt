@@ -9,7 +9,7 @@ use lib.Dec.{ltb, nltb→le, not_T}
 use lib.ListN.{length, get_or, take}
 use lib.Seq.{get_or-take, length-take-le}
 use Rattle.sets.specs.Sum.{any}
-use Rattle.sets.proofs.Test.{passes, fails}
+use Rattle.sets.proofs.Test.{fails}
 use Rattle.sets.proofs.Sum.{any-from, any-cong}
 use Rattle.density.specs.declared.Site.{Site}
 use Rattle.density.specs.Network.{Listing, network, no_site, site_at, crews_above, uncrewed, sites_uncrewed}
@@ -18,13 +18,18 @@ use Rattle.records.specs.declared.ListArray.{ListArray}
 use Rattle.records.specs.declared.PlanArray.{PlanArray}
 use Rattle.records.specs.declared.RollArray.{RollArray}
 use Rattle.records.specs.Values.{Plan, roll_in, listing, plan_in}
-use Rattle.tables.specs.declared.Verdict.TheVariants.{Passes, Refused}
-use Rattle.tables.specs.Verdict.{verdict}
+use Rattle.std.specs.declared.option.Option.TheVariants.{None, Some}
+use Rattle.std.specs.declared.result.Result.{Result}
+use Rattle.std.specs.declared.result.Result.TheVariants.{Ok, Err}
+use Rattle.records.specs.declared.refusal.Refusal.{Refusal}
+use Rattle.records.specs.declared.refusal.Refusal.TheVariants.{CorruptStore}
+use Rattle.records.specs.Refusals.{refusal_of}
+use mathlib.Core.Option.{Option, none, some}
 use Rattle.tables.specs.Tables.{Counted, Formed, lent_plan}
 use Rattle.tables.specs.declared.Form.{Form}
 use Rattle.held_state.specs.declared.Summary.{Summary}
 use Rattle.held_state.specs.Held.{State, list_of, plan_held, bad_site, bad_plan, corrupt}
-use Rattle.held_state.specs.Values.{Stands, BadKnown, Examined, refuses}
+use Rattle.held_state.specs.Values.{Stands, BadKnown, Examined}
 use Rattle.held_state.proofs.Intact.{good-range, neither, sized}
 
 -- ---- a verdict on the form
@@ -39,14 +44,19 @@ unfolding applies
 one-applies [] = refl
 one-applies (row n b ∷ rows) = one-applies rows
 
-refused-applies : (rows : List Row) → refuses (verdict (first_row rows)) ≡ applies false rows
+-- whether a row refuses
+abbrev refuses : Option ℕ → Bool
+refuses none = false
+refuses (some n) = true
+
+refused-applies : (rows : List Row) → refuses (first_row rows) ≡ applies false rows
 unfolding first_row applies
 refused-applies [] = refl
 refused-applies (row k true ∷ rows) = sym (one-applies rows)
 refused-applies (row k false ∷ rows) = refused-applies rows
 
 -- rows 12 to 14 refuse what row 0 calls a bad plan
-pub form-refuses : (l : Listing) (p : Plan) → refuses (verdict (first_row (take 3 (plan_rows (network l) p.groups p.shares)))) ≡ bad_plan l p
+form-refuses : (l : Listing) (p : Plan) → refuses (first_row (take 3 (plan_rows (network l) p.groups p.shares))) ≡ bad_plan l p
 unfolding applies plan_rows
 form-refuses l p = refused-applies (take 3 (plan_rows (network l) p.groups p.shares))
 
@@ -169,45 +179,46 @@ module _ (s : State) (list : ListArray) (k : Summary) (gs ss : List ℕ) (t : St
 
 -- ---- what row 0 finds
 
-module _ (list : ListArray) (k : Summary) (gs ss : List ℕ) (r : Form) (ws : List ℕ) where
+module _ (list : ListArray) (k : Summary) (gs ss : List ℕ) (ws : List ℕ) where
   abbrev plan : PlanArray
   plan = lent_plan k.grouped gs ss
 
   -- a refusal leaves nothing
-  refused : (n : ℕ) → r.verdict ≡ Refused n → ((s : State) → Stands s list k gs ss → true ≡ corrupt s) → Examined list k plan r ws
-  refused n v z =
-      let passed : r.verdict ≡ Passes → ⊥ = λ p. fails (refuses r.verdict) (ap refuses p) (passes (refuses r.verdict) (ap refuses v)) in
-      record { zero = λ s t. ap refuses v ∙ z s t; few = λ p. absurd (passed p); kept = λ p h. absurd (passed p) }
+  refused : ((s : State) → Stands s list k gs ss → true ≡ corrupt s) → Examined list k plan (Err CorruptStore) ws
+  refused z = record { zero = z; row = refl; few = tt; kept = tt }
 
-  pub examined-far : far list k ≡ true → (n : ℕ) → r.verdict ≡ Refused n → Examined list k plan r ws
-  examined-far e n v = refused n v (λ s t. zero-far s list k gs ss t e)
+  pub examined-far : far list k ≡ true → Examined list k plan (Err CorruptStore) ws
+  examined-far e = refused (λ s t. zero-far s list k gs ss t e)
 
   module _ (marked : BadKnown list k) (e : far list k ≡ false) where
-    pub examined-bad : k.bad ≡ true → (n : ℕ) → r.verdict ≡ Refused n → Examined list k plan r ws
-    examined-bad b n v = refused n v (λ s t. zero-bad s list k gs ss t marked e b)
+    pub examined-bad : k.bad ≡ true → Examined list k plan (Err CorruptStore) ws
+    examined-bad b = refused (λ s t. zero-bad s list k gs ss t marked e b)
 
-    pub examined-above : k.bad ≡ false → above list ≡ true → (n : ℕ) → r.verdict ≡ Refused n → Examined list k plan r ws
-    examined-above b c n v = refused n v (λ s t. zero-above s list k gs ss t marked e b c)
+    pub examined-above : k.bad ≡ false → above list ≡ true → Examined list k plan (Err CorruptStore) ws
+    examined-above b c = refused (λ s t. zero-above s list k gs ss t marked e b c)
 
-    pub examined-lacking : k.bad ≡ false → above list ≡ false → lacking list ≡ true → (n : ℕ) → r.verdict ≡ Refused n → Examined list k plan r ws
-    examined-lacking b c d n v = refused n v (λ s t. zero-lacking s list k gs ss t marked e b c d)
+    pub examined-lacking : k.bad ≡ false → above list ≡ false → lacking list ≡ true → Examined list k plan (Err CorruptStore) ws
+    examined-lacking b c d = refused (λ s t. zero-lacking s list k gs ss t marked e b c d)
 
     module _ (b : Sound list k) where
-      pub examined-none : k.held ≡ false → r.verdict ≡ Passes → Examined list k plan r ws
-      examined-none h v =
+      pub examined-none : k.held ≡ false → Examined list k plan (Ok None) ws
+      examined-none h =
           record {
-            zero = λ s t. ap refuses v ∙ zero-none s list k gs ss t marked e b h;
-            few = λ p. (near list k e).0;
-            kept = λ p i. absurd (fails k.held h (passes k.held i));
+            zero = λ s t. zero-none s list k gs ss t marked e b h;
+            row = tt;
+            few = (near list k e).0;
+            kept = h;
           }
 
-      pub examined-many : k.held ≡ true → 64 < k.grouped → (n : ℕ) → r.verdict ≡ Refused n → Examined list k plan r ws
-      examined-many h l n v = refused n v (λ s t. zero-many s list k gs ss t marked e b h l)
+      pub examined-many : k.held ≡ true → 64 < k.grouped → Examined list k plan (Err CorruptStore) ws
+      examined-many h l = refused (λ s t. zero-many s list k gs ss t marked e b h l)
 
-      pub examined-plan : k.held ≡ true → k.grouped ≤ 64 → Formed list plan r ws → Examined list k plan r ws
-      examined-plan h l f =
-          record {
-            zero = λ s t. ap refuses f.verdict-is ∙ form-refuses (listing list) (plan_in plan list.count) ∙ zero-plan s list k gs ss t marked e b h l;
-            few = λ p. (near list k e).0;
-            kept = λ p i. f.passed p;
-          }
+      module _ (h : k.held ≡ true) (l : k.grouped ≤ 64) where
+        tried : {r : Result Form Refusal} → Formed list plan r ws → (s : State) → Stands s list k gs ss → refuses (refusal_of r) ≡ corrupt s
+        tried f s t = ap refuses f.refusal ∙ form-refuses (listing list) (plan_in plan list.count) ∙ zero-plan s list k gs ss t marked e b h l
+
+        pub examined-refused : {x : Refusal} → Formed list plan (Err x) ws → Examined list k plan (Err CorruptStore) ws
+        examined-refused f = refused (λ s t. tried f s t)
+
+        pub examined-plan : {f : Form} → Formed list plan (Ok f) ws → Examined list k plan (Ok (Some f)) ws
+        examined-plan f = record { zero = λ s t. tried f s t; row = tt; few = (near list k e).0; kept = (h, f.passed) }

@@ -1,7 +1,8 @@
 // What a store holds: its state, row 0, and the figures of a held plan.
+// Kept: slices with their lengths in contracts, and no arrays by reference, which would ask more of callers.
 #![tactic(auto)]
 
-ghost use Rattle.std.specs.Prelude.{◌≡◌, List, ℕ, ◌*◌, ◌^◌, ◌<◌, ◌≤◌, T, ltb, pos, ◌-ℤ◌, length, get_or};
+ghost use Rattle.std.specs.Prelude.{◌≡◌, ◌||◌, List, ℕ, ◌*◌, ◌^◌, ◌<◌, ◌≤◌, T, ltb, pos, ◌-ℤ◌, length, get_or};
 ghost use Rattle.sets.specs.Set.{has, set_of};
 ghost use Rattle.sets.specs.Sum.{any};
 ghost use Rattle.density.specs.Network.{no_site, uncrewed};
@@ -14,10 +15,11 @@ ghost use Rattle.held_state.specs.Held.{State, bad_site, corrupt};
 ghost use Rattle.held_state.specs.Values.{BadKnown, Stands, Examined, held_litres, held_size};
 
 use density::Site;
-use records::{ListArray, RollArray, roll, scan};
-use tables::{Form, Verdict};
+use records::{ListArray, Refusal, RollArray, roll};
+use tables::Form;
 
 // What is held beside the table: how many of its places are sites, a plan or none, and the list's roll or none.
+// Kept: a flag and counts beside arrays, as a store's bytes have them: row 0 and the layout speak of the arrays where the flag is 0 too.
 #[derive(Clone, Copy)]
 pub struct Store {
     pub count: usize,
@@ -29,6 +31,7 @@ pub struct Store {
 }
 
 // What a call goes by beside the held sites and the arrays of the plan: the places of the table, whether a plan is held and of how many groups, and whether rows 5 or 6 refuse a held site.
+// Kept: flags beside counts, all of which row 0 looks at in one step.
 #[derive(Clone, Copy)]
 pub struct Summary {
     pub places: usize,
@@ -55,8 +58,7 @@ pub struct Difference {
 pub fn is_bad(x: Site) -> bool
     ensures { result ≡ bad_site x }
 {
-    let depots = scan::either(63 < x.first, 63 < x.second);
-    scan::either(depots, x.litres == 0)
+    63 < x.first || 63 < x.second || x.litres == 0
 }
 
 // Do they refuse one of the first n sites?
@@ -64,13 +66,10 @@ pub fn is_any_bad(sites: [Site; 512], n: usize) -> bool
     requires { n ≤ 512 }
     ensures { result ≡ any (λ i. bad_site (get_or sites i no_site)) n }
 {
-    let mut i: usize = 0;
-    while i < n {
-        let x = sites[i];
-        if is_bad(x) {
+    for x in &sites[..n] {
+        if is_bad(*x) {
             return true;
         }
-        i += 1;
     }
     false
 }
@@ -88,50 +87,50 @@ fn is_any_uncrewed(list: ListArray) -> bool
     roll::any_uncrewed(roll, sites, list.count)
 }
 
-// What row 0 leaves without a held plan: no tables.
-fn without_tables(verdict: Verdict) -> Form
-    ensures { result.verdict ≡ verdict }
+// The most groups of a plan.
+const MOST_GROUPS: usize = 64;
+
+// Are there more sites than 512, or than the table has places?
+fn lacks_room(count: usize, places: usize) -> bool
+    ensures { result ≡ (ltb 512 count || ltb places count) }
 {
-    Form {
-        verdict,
-        listed: 0,
-        places: [0; 64],
-        sizes: [0; 64],
-        litres: [0; 64],
-    }
+    512 < count || places < count
 }
 
-// Row 0, and the tables of the plan held; w × q of each site goes to `wholes`.
+// Row 0, and the tables of the plan held, or none where no plan is; w × q of each site goes to `wholes`.
 pub fn examine(
     list: ListArray,
     known: Summary,
     groups: &[u64],
     shares: &[u64],
     wholes: &mut [u64],
-) -> Form
+) -> Result<Option<Form>, Refusal>
     requires { (length groups.now ≡ 64) × (length shares.now ≡ 512) × (length wholes.old ≡ 512) × BadKnown list known }
     ensures { Examined list known (lent_plan known.grouped groups.now shares.now) result wholes.new }
 {
-    if scan::either(512 < list.count, known.places < list.count) {
-        return without_tables(Verdict::Refused(0));
+    if lacks_room(list.count, known.places) {
+        return Err(Refusal::CorruptStore);
     }
     if known.bad {
-        return without_tables(Verdict::Refused(0));
+        return Err(Refusal::CorruptStore);
     }
     let roll = list.roll;
     if roll::is_above(roll) {
-        return without_tables(Verdict::Refused(0));
+        return Err(Refusal::CorruptStore);
     }
     if is_any_uncrewed(list) {
-        return without_tables(Verdict::Refused(0));
+        return Err(Refusal::CorruptStore);
     }
     if !known.held {
-        return without_tables(Verdict::Passes);
+        return Ok(None);
     }
-    if 64 < known.grouped {
-        return without_tables(Verdict::Refused(0));
+    if MOST_GROUPS < known.grouped {
+        return Err(Refusal::CorruptStore);
     }
-    verify::try_form(list, known.grouped, groups, shares, wholes)
+    let Ok(form) = verify::try_form(list, known.grouped, groups, shares, wholes) else {
+        return Err(Refusal::CorruptStore);
+    };
+    Ok(Some(form))
 }
 
 // Row 0.
@@ -140,12 +139,7 @@ pub fn is_corrupt(list: ListArray, known: Summary, groups: &[u64], shares: &[u64
     ensures { (s : State) → Stands s list known groups.now shares.now → result ≡ corrupt s }
 {
     let mut wholes = [0u64; 512];
-    let f = examine(list, known, groups, shares, &mut wholes);
-    let verdict = f.verdict;
-    match verdict {
-        Verdict::Passes => false,
-        Verdict::Refused(_) => true,
-    }
+    examine(list, known, groups, shares, &mut wholes).is_err()
 }
 
 // W and q of a listed depot, from the tables.
@@ -194,14 +188,12 @@ fn groups_read(f: Form, n: usize, threshold: u32) -> usize
     requires { (list : ListArray) × (plan : PlanArray) × (ws : List ℕ) × Kept list plan f ws × (n ≡ plan.count) }
     ensures { (result ≤ n) × ((list : ListArray) (plan : PlanArray) (ws : List ℕ) → Kept list plan f ws → n ≡ plan.count → result ≡ groups_read (net list) (groups_in list plan) threshold) }
 {
-    let mut k: usize = 0;
-    while k < n {
+    for k in 0..n {
         if is_below(f.litres[k], f.sizes[k], threshold) {
             return k;
         }
-        k += 1;
     }
-    k
+    n
 }
 
 // The depots whose W/q is at least the threshold: those of the held groups that are read.

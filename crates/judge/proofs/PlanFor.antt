@@ -17,10 +17,7 @@ use Rattle.records.specs.Answer.{plan_array}
 use Rattle.records.proofs.RoundTrip.{plan-read}
 use Rattle.records.proofs.Records.{length-records}
 use Rattle.records.proofs.Answers.{plan-array}
-use Rattle.tables.specs.declared.Verdict.TheVariants.{Passes, Refused}
-use Rattle.tables.specs.Verdict.{verdict}
 use Rattle.tables.specs.Tables.{net, groups_in, shares_in}
-use Rattle.tables.proofs.Verdicts.{verdict-refused, verdict-passes}
 use Rattle.judge.specs.Check.{judged_for}
 
 module _ (e : Edition) (list : ListArray) (input : List ℕ) (few : list.count ≤ 512) (wide : length list.sites ≡ 512) where
@@ -56,9 +53,9 @@ module _ (e : Edition) (list : ListArray) (input : List ℕ) (few : list.count �
     judged-is o r =
         read_is ∙ ap (λ (x : Outcome Plan). bind x judge) h ∙ ap (λ (o : Option ℕ). settle o p) (ap first (sym plan-in) ∙ r)
 
-    pub plan-refused : (n : ℕ) → verdict (first_row (plan_rows (net list) (groups_in list plan) (shares_in list plan))) ≡ Refused n
+    pub plan-refused : (n : ℕ) → first_row (plan_rows (net list) (groups_in list plan) (shares_in list plan)) ≡ some n
         → judged_for e (listing list) input ≡ refused n
-    plan-refused n r = judged-is (some n) (verdict-refused _ n r)
+    plan-refused n r = judged-is (some n) r
 
-    pub plan-passed : verdict (first_row (plan_rows (net list) (groups_in list plan) (shares_in list plan))) ≡ Passes → judged_for e (listing list) input ≡ passed p
-    plan-passed r = judged-is none (verdict-passes _ r)
+    pub plan-passed : first_row (plan_rows (net list) (groups_in list plan) (shares_in list plan)) ≡ none → judged_for e (listing list) input ≡ passed p
+    plan-passed r = judged-is none r

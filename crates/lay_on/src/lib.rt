@@ -11,10 +11,7 @@ ghost use Rattle.lay_on.specs.Raise.{raise};
 pub fn part(there: bool, x: u64) -> u64
     ensures { result ≡ when there x }
 {
-    if there {
-        return x;
-    }
-    0
+    if there { x } else { 0 }
 }
 
 // Adds m to the load of depot d.
@@ -22,7 +19,7 @@ fn add_to(load: &mut [u64], d: usize, m: u64)
     requires { (d < 64) × (length load.old ≡ 64) × (total_load load.old + m < 2 ^ 64) }
     ensures { load.new ≡ raise load.old d m }
 {
-    load[d] = load[d] + m;
+    load[d] += m;
 }
 
 // Stores the shares of site i.

@@ -2,7 +2,7 @@
 // Numbers and places are read one after another by loops over a width; the widths of both editions are given to them as constants.
 #![tactic(auto)]
 
-ghost use Rattle.std.specs.Prelude.{◌≡◌, false, cond, ◌<◌, ◌≤◌, ◌+◌, ◌*◌, ◌-◌, ◌^◌, min, length, take, drop, get_or};
+ghost use Rattle.std.specs.Prelude.{◌≡◌, false, cond, ◌<◌, ◌≤◌, ◌+◌, ◌*◌, ◌-◌, ◌/◌, ◌^◌, length, take, drop, get_or};
 ghost use Rattle.sets.specs.Sum.{any};
 ghost use Rattle.density.specs.Network.{no_site};
 ghost use Rattle.held_state.specs.Held.{bad_site};
@@ -12,11 +12,11 @@ use density::Site;
 use held_state::is_bad;
 use records::number::field;
 use records::roll::bytes_at;
-use records::scan::either;
-use records::{ListArray, RollArray, no_roll};
+use records::{ListArray, RollArray, no_roll, no_site};
 use table::capacity;
 
 // The first words of a store: how many sites it has, whether a plan is held, and of how many groups; and its roll or none.
+// Kept: a flag and a count side by side, as in `held_state::Store`.
 #[derive(Clone, Copy)]
 pub struct Header {
     pub count: usize,
@@ -25,51 +25,40 @@ pub struct Header {
     pub roll: RollArray,
 }
 
-// The smaller of two.
-fn least(a: usize, b: usize) -> usize
-    ensures { result ≡ min a b }
-{
-    if a < b { a } else { b }
-}
-
 // Reads numbers of `w` bytes from a place of `s` on, one for each place of `out`.
 fn numbers_by(out: &mut [u64], s: &[u8], from: usize, w: usize)
     requires { (w ≤ 8) × (from + w * length out.old ≤ length s.now) }
     ensures { out.new ≡ numbers w (length out.old) from s.now }
 {
     let mut at = from;
-    let mut i = 0;
-    while i < out.len() {
-        out[i] = field(s, at, w);
+    for x in out.iter_mut() {
+        *x = field(s, at, w);
         at += w;
-        i += 1;
     }
 }
 
 // The same; the widths of the editions' shares are constants of its calls.
+// Kept: the width is a parameter, here and of places below, and no const one: the contracts take any width, and a const parameter serves only those written out.
 fn numbers_in(out: &mut [u64], s: &[u8], from: usize, w: usize)
     requires { (w ≤ 8) × (from + w * length out.old ≤ length s.now) }
     ensures { out.new ≡ numbers w (length out.old) from s.now }
 {
-    if w == 4 {
-        return numbers_by(out, s, from, 4);
+    match w {
+        4 => numbers_by(out, s, from, 4),
+        8 => numbers_by(out, s, from, 8),
+        _ => numbers_by(out, s, from, w),
     }
-    if w == 8 {
-        return numbers_by(out, s, from, 8);
-    }
-    numbers_by(out, s, from, w)
 }
 
 // What bytes that are no store read as: more sites than a store can have.
 fn no_store() -> Header
     ensures { result ≡ no_header }
 {
-    let roll = no_roll();
     Header {
         count: 513,
         held: false,
         grouped: 0,
-        roll,
+        roll: no_roll(),
     }
 }
 
@@ -78,10 +67,7 @@ fn is_roll_wrong(s: &[u8], at: usize, rolls: bool) -> bool
     requires { length s.now ≡ at + cond rolls 72 0 }
     ensures { result ≡ roll_wrong rolls (drop at s.now) }
 {
-    if !rolls {
-        return false;
-    }
-    1 < field(s, at, 8)
+    rolls && 1 < field(s, at, 8)
 }
 
 // The roll or none at a place of `s`; none where the edition has no rolls.
@@ -92,11 +78,9 @@ fn roll_in(s: &[u8], at: usize, rolls: bool) -> RollArray
     if !rolls {
         return no_roll();
     }
-    let there = field(s, at, 8);
-    let crews = bytes_at(s, at + 8);
     RollArray {
-        there: there == 1,
-        crews,
+        there: field(s, at, 8) == 1,
+        crews: bytes_at(s, at + 8),
     }
 }
 
@@ -115,27 +99,13 @@ pub fn store_in(s: &[u8], w: usize, rolls: bool, groups: &mut [u64], shares: &mu
     }
     let count = field(s, 0, 8) as usize;
     let grouped = field(s, 16, 8) as usize;
-    let g = least(grouped, 64);
-    let n = least(count, 512);
-    numbers_in(&mut groups[..g], s, 24, 8);
-    numbers_in(&mut shares[..n], s, 536, w);
-    let roll = roll_in(s, front, rolls);
+    numbers_in(&mut groups[..grouped.min(64)], s, 24, 8);
+    numbers_in(&mut shares[..count.min(512)], s, 536, w);
     Header {
         count,
         held: held == 1,
         grouped,
-        roll,
-    }
-}
-
-// What a place without a site holds. As a function's answer it is one number to the compiler, which then fills 512 places at once.
-fn no_site() -> Site
-    ensures { result ≡ no_site }
-{
-    Site {
-        first: 0,
-        second: 0,
-        litres: 0,
+        roll: roll_in(s, front, rolls),
     }
 }
 
@@ -159,20 +129,23 @@ pub fn site_in(t: &[u8], at: usize, w: usize) -> Site
     site_of(field(t, at, 2 + w))
 }
 
+// The site at the i-th place of a table whose places have `size` bytes.
+fn site_at(t: &[u8], i: usize, size: usize) -> Site
+    requires { (2 ≤ size) × (size ≤ 6) × (i < length t.now / size) }
+    ensures { result ≡ get_or (sites_in (size - 2) t.now) i no_site }
+{
+    site_of(field(t, size * i, size))
+}
+
 // The list of a roll or none and of the sites of the first n places, each of `size` bytes.
 fn list_by(t: &[u8], size: usize, n: usize, roll: RollArray) -> ListArray
     requires { (2 ≤ size) × (size ≤ 6) }
     ensures { (result.count ≡ n) × (result.roll ≡ roll) × (n ≤ 512 → n ≤ places_in (size - 2) t.now → take n result.sites ≡ take n (sites_in (size - 2) t.now)) }
 {
-    let places = least(n, capacity(t.len() / size));
-    let none = no_site();
-    let mut sites = [none; 512];
-    let mut i: usize = 0;
-    let mut at: usize = 0;
-    while i < places {
-        sites[i] = site_of(field(t, at, size));
-        at += size;
-        i += 1;
+    let places = n.min(capacity(t.len() / size));
+    let mut sites = [no_site(); 512];
+    for i in 0..places {
+        sites[i] = site_at(t, i, size);
     }
     ListArray {
         count: n,
@@ -186,13 +159,11 @@ pub fn list_in(t: &[u8], w: usize, n: usize, roll: RollArray) -> ListArray
     requires { w ≤ 4 }
     ensures { (result.count ≡ n) × (result.roll ≡ roll) × (n ≤ 512 → n ≤ places_in w t.now → take n result.sites ≡ take n (sites_in w t.now)) }
 {
-    if w == 2 {
-        return list_by(t, 4, n, roll);
+    match w {
+        2 => list_by(t, 4, n, roll),
+        4 => list_by(t, 6, n, roll),
+        _ => list_by(t, 2 + w, n, roll),
     }
-    if w == 4 {
-        return list_by(t, 6, n, roll);
-    }
-    list_by(t, 2 + w, n, roll)
 }
 
 // Is one of the first n places, each of `size` bytes, a bad site?
@@ -200,15 +171,10 @@ fn bad_by(t: &[u8], size: usize, n: usize) -> bool
     requires { (2 ≤ size) × (size ≤ 6) }
     ensures { n ≤ 512 → n ≤ places_in (size - 2) t.now → result ≡ any (λ i. bad_site (get_or (sites_in (size - 2) t.now) i no_site)) n }
 {
-    let count = least(n, capacity(t.len() / size));
+    let count = n.min(capacity(t.len() / size));
     let mut bad = false;
-    let mut i: usize = 0;
-    let mut at: usize = 0;
-    while i < count {
-        let x = site_of(field(t, at, size));
-        bad = either(bad, is_bad(x));
-        at += size;
-        i += 1;
+    for i in 0..count {
+        bad |= is_bad(site_at(t, i, size));
     }
     bad
 }
@@ -218,11 +184,9 @@ pub fn is_any_bad(t: &[u8], w: usize, n: usize) -> bool
     requires { w ≤ 4 }
     ensures { n ≤ 512 → n ≤ places_in w t.now → result ≡ any (λ i. bad_site (get_or (sites_in w t.now) i no_site)) n }
 {
-    if w == 2 {
-        return bad_by(t, 4, n);
+    match w {
+        2 => bad_by(t, 4, n),
+        4 => bad_by(t, 6, n),
+        _ => bad_by(t, 2 + w, n),
     }
-    if w == 4 {
-        return bad_by(t, 6, n);
-    }
-    bad_by(t, 2 + w, n)
 }

@@ -2,7 +2,7 @@
 // Numbers and places are written one after another by loops over a width; the widths of both editions are given as constants to that of the places, edition 1's to that of the shares.
 #![tactic(auto)]
 
-ghost use Rattle.std.specs.Prelude.{◌≡◌, true, cond, ℕ, ◌<◌, ◌≤◌, ◌+◌, ◌*◌, ◌^◌, length, take, get_or, replicate};
+ghost use Rattle.std.specs.Prelude.{◌≡◌, true, ℕ, ◌<◌, ◌≤◌, ◌+◌, ◌*◌, ◌^◌, length, take, get_or};
 ghost use mathlib.Core.List.{flat_map};
 ghost use Rattle.records.specs.Bytes.{le};
 ghost use Rattle.records.specs.Write.{place, onto};
@@ -20,23 +20,10 @@ fn put_numbers(out: &mut [u8], w: usize, xs: &[u64])
     requires { w * length xs.now ≤ length out.old }
     ensures { out.new ≡ onto (flat_map (le w) xs.now) out.old }
 {
-    let mut i = 0;
     let mut at = 0;
-    while i < xs.len() {
-        number_at(out, at, w, xs[i]);
+    for x in xs {
+        number_at(out, at, w, *x);
         at += w;
-        i += 1;
-    }
-}
-
-// All bytes become zero.
-fn clear(out: &mut [u8])
-    ensures { out.new ≡ replicate (length out.old) 0 }
-{
-    let mut i = 0;
-    while i < out.len() {
-        out[i] = 0;
-        i += 1;
     }
 }
 
@@ -47,10 +34,11 @@ pub fn put_bare(out: &mut [u8], w: usize, n: usize)
 {
     let end = 536 + w * 512;
     number_at(out, 0, 8, n as u64);
-    clear(&mut out[8..end]);
+    out[8..end].fill(0);
 }
 
 // Writes a store that holds a plan. Its roll stays. By their types its figures have the widths, where its shares have theirs.
+// Kept: the width is a parameter, here and of places below, and no const one, as in `layout`.
 pub fn put_plan(
     out: &mut [u8],
     w: usize,
@@ -66,17 +54,10 @@ pub fn put_plan(
     number_at(out, 8, 8, 1);
     number_at(out, 16, 8, grouped as u64);
     put_numbers(&mut out[24..], 8, groups);
-    if w == 4 {
-        return put_numbers(&mut out[536..], 4, shares);
+    match w {
+        4 => put_numbers(&mut out[536..], 4, shares),
+        _ => put_numbers(&mut out[536..], w, shares),
     }
-    put_numbers(&mut out[536..], w, shares);
-}
-
-// 1 for true and 0 for false.
-fn bit(b: bool) -> u64
-    ensures { result ≡ cond b 1 0 }
-{
-    if b { 1 } else { 0 }
 }
 
 // Writes the roll of a store, or the lack of one.
@@ -85,9 +66,8 @@ pub fn put_roll(out: &mut [u8], w: usize, roll: RollArray)
     ensures { out.new ≡ place (front_size w) (roll_part true roll) out.old }
 {
     let at = 536 + w * 512;
-    let bytes = roll.crews;
-    number_at(out, at, 8, bit(roll.there));
-    crews(out, at + 8, bytes);
+    number_at(out, at, 8, u64::from(roll.there));
+    crews(out, at + 8, roll.crews);
 }
 
 // A site goes to a place of a table's bytes.
@@ -103,14 +83,8 @@ fn put_by(out: &mut [u8], w: usize, sites: [Site; 512], n: usize)
     requires { (n ≤ 512) × (place_size w * n ≤ length out.old) }
     ensures { out.new ≡ table_over w (take n sites) out.old }
 {
-    let mut i: usize = 0;
-    let mut at: usize = 0;
-    while i < n {
-        let x = sites[i];
-        let body = body_of(x);
-        number_at(out, at, 2 + w, body);
-        at += 2 + w;
-        i += 1;
+    for (i, x) in sites[..n].iter().enumerate() {
+        put_site(out, (2 + w) * i, w, *x);
     }
 }
 
@@ -119,11 +93,9 @@ pub fn put_sites(out: &mut [u8], w: usize, sites: [Site; 512], n: usize)
     requires { (n ≤ 512) × (place_size w * n ≤ length out.old) }
     ensures { PutSites w n sites out.old out.new }
 {
-    if w == 2 {
-        return put_by(out, 2, sites, n);
+    match w {
+        2 => put_by(out, 2, sites, n),
+        4 => put_by(out, 4, sites, n),
+        _ => put_by(out, w, sites, n),
     }
-    if w == 4 {
-        return put_by(out, 4, sites, n);
-    }
-    put_by(out, w, sites, n);
 }

@@ -24,6 +24,8 @@ use Rattle.records.specs.Values.{roll_array}
 use Rattle.records.specs.Write.{Marked}
 use Rattle.held_state.specs.Held.{State}
 use Rattle.store.specs.declared.Answer.{Answer}
+use Rattle.std.specs.declared.result.Result.{Result}
+use Rattle.records.specs.declared.refusal.Refusal.{Refusal}
 use Rattle.store.specs.declared.Request.{Request}
 use Rattle.store.specs.declared.Request.TheVariants as request
 use Rattle.store.specs.Calls.{Call, Reply, Told, told}
@@ -55,7 +57,7 @@ module _ {M : Type 1} {𝓤 : Ura M} (𝓛 : Logic 𝓤) (mem : Memory → SProp
     fresh-asks = refl
 
   module _ (κs : Lfts 3) (store store' table table' : MutBor (List ℕ)) (input input' : Bor (List ℕ)) where
-    load-says : (r : Answer)
+    load-says : (r : Result Answer Refusal)
         → (of-load.clauses 𝓛 mem run κs (e, (store, (table, (input, tt))))).ensures tt r (e, (store', (table', (input', tt))))
         ≡ ⌜ ((buffer : List ℕ)
         → Called e store.now table.now (record { request = request.Load; input = input.now; buffer = buffer }) (told r) store'.now table'.now buffer) ⌝
@@ -66,7 +68,7 @@ module _ {M : Type 1} {𝓤 : Ura M} (𝓛 : Logic 𝓤) (mem : Memory → SProp
 
   -- the table is only read
   module _ (κs : Lfts 3) (store store' : MutBor (List ℕ)) (table table' input input' : Bor (List ℕ)) where
-    propose-says : (r : Answer)
+    propose-says : (r : Result Answer Refusal)
         → (of-propose.clauses 𝓛 mem run κs (e, (store, (table, (input, tt))))).ensures tt r (e, (store', (table', (input', tt))))
         ≡ ⌜ ((buffer : List ℕ)
         → Called e store.now table.now (record { request = request.Propose; input = input.now; buffer = buffer }) (told r) store'.now table.now buffer) ⌝
@@ -76,7 +78,7 @@ module _ {M : Type 1} {𝓤 : Ura M} (𝓛 : Logic 𝓤) (mem : Memory → SProp
     propose-asks = refl
 
   module _ (κs : Lfts 2) (store store' table table' : MutBor (List ℕ)) where
-    change-says : (i w : ℕ) (r : Answer)
+    change-says : (i w : ℕ) (r : Result Answer Refusal)
         → (of-change.clauses 𝓛 mem run κs (e, (store, (table, (i, (w, tt)))))).ensures tt r (e, (store', (table', (i, (w, tt)))))
         ≡ ⌜ ((input buffer : List ℕ) → Bytes input
         → Called e store.now table.now (record { request = request.Change i w; input = input; buffer = buffer }) (told r) store'.now table'.now buffer) ⌝
@@ -87,7 +89,7 @@ module _ {M : Type 1} {𝓤 : Ura M} (𝓛 : Logic 𝓤) (mem : Memory → SProp
         ≡ ⌜ Fitting e × (is_of e store.now ≡ true) × (w < 256 ^ e.litres) ⌝
     change-asks i w = refl
 
-    add-says : (x : Site) (r : Answer)
+    add-says : (x : Site) (r : Result Answer Refusal)
         → (of-add.clauses 𝓛 mem run κs (e, (store, (table, (x, tt))))).ensures tt r (e, (store', (table', (x, tt))))
         ≡ ⌜ ((input buffer : List ℕ) → Bytes input
         → Called e store.now table.now (record { request = request.Add x.first x.second x.litres; input = input; buffer = buffer }) (told r) store'.now
@@ -100,7 +102,7 @@ module _ {M : Type 1} {𝓤 : Ura M} (𝓛 : Logic 𝓤) (mem : Memory → SProp
 
   -- the store and the table are only read
   module _ (κs : Lfts 3) (store store' table table' : Bor (List ℕ)) (q : Request) (buffer buffer' : MutBor (List ℕ)) where
-    look-says : (r : Answer)
+    look-says : (r : Result Answer Refusal)
         → (of-look.clauses 𝓛 mem run κs (e, (store, (table, (q, (buffer, tt)))))).ensures tt r (e, (store', (table', (q, (buffer', tt)))))
         ≡ ⌜ ((input : List ℕ) → Bytes input
         → Called e store.now table.now (record { request = q; input = input; buffer = buffer.now }) (told r) store.now table.now buffer'.now) ⌝
@@ -110,7 +112,7 @@ module _ {M : Type 1} {𝓤 : Ura M} (𝓛 : Logic 𝓤) (mem : Memory → SProp
     look-asks = refl
 
   module _ (κs : Lfts 4) (store store' table table' : MutBor (List ℕ)) (q : Request) (input input' : Bor (List ℕ)) (buffer buffer' : MutBor (List ℕ)) where
-    call-says : (r : Answer)
+    call-says : (r : Result Answer Refusal)
         → (of-call.clauses 𝓛 mem run κs (e, (store, (table, (q, (input, (buffer, tt))))))).ensures tt r (e, (store', (table', (q, (input', (buffer', tt))))))
         ≡ ⌜ Called e store.now table.now (record { request = q; input = input.now; buffer = buffer.now }) (told r) store'.now table'.now buffer'.now ⌝
     call-says r = refl

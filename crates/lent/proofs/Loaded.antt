@@ -10,15 +10,13 @@ use Rattle.density.specs.declared.Site.{Site}
 use Rattle.density.specs.Network.{Listing, no_site}
 use Rattle.records.specs.declared.Edition.{Edition}
 use Rattle.records.specs.declared.ListArray.{ListArray}
-use Rattle.records.specs.declared.ListRead.{ListRead}
 use Rattle.records.specs.declared.PlanArray.{PlanArray}
 use Rattle.records.specs.declared.RollArray.{RollArray}
-use Rattle.records.specs.declared.PlanRead.{PlanRead}
-use Rattle.records.specs.declared.Read.TheVariants.{Count, Refused}
-use Rattle.records.specs.Answer.{filled, list_array, plan_array, list_read, plan_read}
+use Rattle.records.specs.Answer.{filled, list_array, list_read, plan_read}
 use Rattle.records.specs.Format.{read_list}
 use Rattle.records.specs.Outcome.{Outcome, refused, passed}
 use Rattle.records.specs.Values.{Plan, roll_array}
+use Rattle.records.proofs.Answers.{list-passed, list-refused, plan-passed, plan-refused}
 use Rattle.table.specs.Table.{overlay}
 use Rattle.judge.specs.Check.{judged_for}
 use Rattle.held_state.specs.declared.Store.{Store}
@@ -32,24 +30,6 @@ use Rattle.layout.specs.Layout.{places_in, sites_in}
 use Rattle.layout.proofs.Reading.{length-sites}
 use Rattle.lent.specs.Lent.{state_in}
 
--- ---- what a reader answers
-
-list-passed : (o : Outcome Listing) (n : ℕ) → (list_read o).answer ≡ Count n → (l : Listing) × (o ≡ passed l) × (length l.sites ≡ n) × ((list_read o).list ≡ list_array l)
-list-passed (refused m) n h = absurd (let z : ◌≡◌ {A = ℕ} 0 1 = cc in omega arith)
-list-passed (passed l) n h = (l, refl, cc, refl)
-
-list-refused : (o : Outcome Listing) (n : ℕ) → (list_read o).answer ≡ Refused n → o ≡ refused n
-list-refused (refused m) n h = cc
-list-refused (passed l) n h = absurd (let z : ◌≡◌ {A = ℕ} 0 1 = cc in omega arith)
-
-plan-passed : (o : Outcome Plan) (n : ℕ) → (plan_read o).answer ≡ Count n → (p : Plan) × (o ≡ passed p) × ((plan_read o).plan ≡ plan_array p)
-plan-passed (refused m) n h = absurd (let z : ◌≡◌ {A = ℕ} 0 1 = cc in omega arith)
-plan-passed (passed p) n h = (p, refl, refl)
-
-plan-refused : (o : Outcome Plan) (n : ℕ) → (plan_read o).answer ≡ Refused n → o ≡ refused n
-plan-refused (refused m) n h = cc
-plan-refused (passed p) n h = absurd (let z : ◌≡◌ {A = ℕ} 0 1 = cc in omega arith)
-
 filled-length : {A : Type 0} (k : ℕ) (xs : List A) (z : A) → length xs ≤ k → length (filled k xs z) ≡ k
 filled-length k xs z h = rw (length-append, length-replicate) (omega arith)
 
@@ -61,7 +41,7 @@ pub record Fills (e : Edition) (s t : List ℕ) (c : Call) (n : ℕ) (sites : Li
   pub few : n ≤ 512
   pub room : n ≤ places_in e.litres t
 
-module _ (e : Edition) (s t : List ℕ) (c : Call) (q : c.request ≡ Load) {r : ListRead} (read : r ≡ list_read (read_list e (places_in e.litres t) c.input)) where
+module _ (e : Edition) (s t : List ℕ) (c : Call) (q : c.request ≡ Load) where
   abbrev state : State
   state = state_in e s t
 
@@ -78,22 +58,23 @@ module _ (e : Edition) (s t : List ℕ) (c : Call) (q : c.request ≡ Load) {r :
       ap (λ (x : List Site). x ++ drop (length l.sites) table)
       (sym (take_at l.sites (replicate (512 - length l.sites) no_site) (length l.sites) refl))
 
-  pub load-fills : {n : ℕ} → r.answer ≡ Count n → Fills e s t c n r.list.sites r.list.roll
-  load-fills {n} a =
-      let (l, p, m, k) = list-passed found n (ap (λ (x : ListRead). x.answer) (sym read) ∙ a) in
+  pub load-fills : {y : ListArray} → passed y ≡ list_read found → Fills e s t c y.count y.sites y.roll
+  load-fills {y} read =
+      let (l, p, k) = list-passed found read in
       let g = load_read state c l q (places-are ∙ p) in
-      let list : list_array l ≡ r.list = sym (ap (λ (x : ListRead). x.list) read ∙ k) in
+      let list : list_array l ≡ y = sym k in
+      let count = ap (λ (x : ListArray). x.count) list in
       let table = sites_in e.litres t in
       record {
         steps =
             g.0 ∙ ap (λ (x : List Site). next state (bare (length l.sites) (roll_array l.roll)) x (same c done)) (filled-over l table)
-            ∙ ap₂ (λ (j : ℕ) (x : ListArray). next state (bare j x.roll) (overlay j x.sites table) (same c done)) m list;
-        few = omega (arith, m, g.1);
-        room = omega (arith, m, g.2, length-sites e.litres t);
+            ∙ ap (λ (x : ListArray). next state (bare x.count x.roll) (overlay x.count x.sites table) (same c done)) list;
+        few = omega (arith, count, g.1);
+        room = omega (arith, count, g.2, length-sites e.litres t);
       }
 
-  pub load-keeps : {n : ℕ} → r.answer ≡ Refused n → RefusedBy state c n
-  load-keeps {n} a = load-refused state c n q (places-are ∙ list-refused found n (ap (λ (x : ListRead). x.answer) (sym read) ∙ a))
+  pub load-keeps : {n : ℕ} → refused n ≡ list_read found → RefusedBy state c n
+  load-keeps {n} read = load-refused state c n q (places-are ∙ list-refused found read)
 
 -- ---- a plan
 
@@ -107,25 +88,24 @@ pub record Holds (e : Edition) (s t : List ℕ) (c : Call) (n : ℕ) (plan : Pla
   pub many : length plan.groups ≡ 64
   pub each : length plan.shares ≡ 512
 
-module _ (e : Edition) (s t : List ℕ) (c : Call) (q : c.request ≡ Propose) (z : corrupt (state_in e s t) ≡ false) {l : Listing} {r : PlanRead}
-    (is : l ≡ list_of (state_in e s t)) (read : r ≡ plan_read (judged_for e l c.input)) where
+module _ (e : Edition) (s t : List ℕ) (c : Call) (q : c.request ≡ Propose) (z : corrupt (state_in e s t) ≡ false) {l : Listing} {o : Outcome PlanArray}
+    (is : l ≡ list_of (state_in e s t)) (read : o ≡ plan_read (judged_for e l c.input)) where
   abbrev judged : Outcome Plan
   judged = judged_for e (list_of (state_in e s t)) c.input
 
-  read_is : r ≡ plan_read judged
+  read_is : o ≡ plan_read judged
   read_is = read ∙ ap (λ (x : Listing). plan_read (judged_for e x c.input)) is
 
-  pub proposal-holds : {k n : ℕ} → n ≡ (state_in e s t).store.count → r.answer ≡ Count k → Holds e s t c n r.plan
-  proposal-holds {k} {n} m a =
-      let (p, o, d) = plan-passed judged k (ap (λ (x : PlanRead). x.answer) (sym read_is) ∙ a) in
-      let g = proposal-passed (state_in e s t) c z p q o in
-      let plan : r.plan ≡ plan_array p = ap (λ (x : PlanRead). x.plan) read_is ∙ d in
+  pub proposal-holds : {n : ℕ} {r : PlanArray} → n ≡ (state_in e s t).store.count → passed r ≡ o → Holds e s t c n r
+  proposal-holds {n} {r} m a =
+      let (p, h, d) = plan-passed judged (a ∙ read_is) in
+      let g = proposal-passed (state_in e s t) c z p q h in
       let few = (held-count (state_in e s t) z).0 in
       record {
-        steps = g.0 ∙ ap₂ (λ (j : ℕ) (x : PlanArray). next (state_in e s t) (written j x (state_in e s t).store.roll) (sites_in e.litres t) (same c done)) (sym m) (sym plan);
-        many = ap (λ (x : PlanArray). length x.groups) plan ∙ filled-length 64 p.groups 0 g.1;
-        each = ap (λ (x : PlanArray). length x.shares) plan ∙ filled-length 512 p.shares 0 (omega (arith, g.2, few));
+        steps = g.0 ∙ ap₂ (λ (j : ℕ) (x : PlanArray). next (state_in e s t) (written j x (state_in e s t).store.roll) (sites_in e.litres t) (same c done)) (sym m) (sym d);
+        many = ap (λ (x : PlanArray). length x.groups) d ∙ filled-length 64 p.groups 0 g.1;
+        each = ap (λ (x : PlanArray). length x.shares) d ∙ filled-length 512 p.shares 0 (omega (arith, g.2, few));
       }
 
-  pub proposal-keeps : {n : ℕ} → r.answer ≡ Refused n → RefusedBy (state_in e s t) c n
-  proposal-keeps {n} a = proposal-refused (state_in e s t) c z n q (plan-refused judged n (ap (λ (x : PlanRead). x.answer) (sym read_is) ∙ a))
+  pub proposal-keeps : {n : ℕ} → refused n ≡ o → RefusedBy (state_in e s t) c n
+  proposal-keeps {n} a = proposal-refused (state_in e s t) c z n q (plan-refused judged (a ∙ read_is))

@@ -9,6 +9,7 @@ ghost use Rattle.figures.specs.Computed.{Computed};
 ghost use Rattle.lines.specs.Lines.{depot_line, group_line, site_line};
 
 use figures::Figures;
+use std::fmt;
 
 // What is printed of a depot: its number, its group from 1, W and q.
 #[derive(Clone, Copy)]
@@ -17,6 +18,16 @@ pub struct DepotLine {
     pub group: u8,
     pub litres: u64,
     pub size: u64,
+}
+
+impl fmt::Display for DepotLine {
+    fn fmt<W: fmt::Write>(&self, f: &mut fmt::Formatter<W>) -> fmt::Result {
+        write!(
+            f,
+            "{} {} {} {}",
+            self.depot, self.group, self.litres, self.size
+        )
+    }
 }
 
 // What is printed of a group: its set of depots, W and q.
@@ -48,6 +59,20 @@ pub struct SiteLine {
 pub struct Fraction {
     pub whole: u64,
     pub rest: u64,
+    pub q: u64,
+}
+
+// Written as `4 1/2`, `1/2`, `4` or `0`.
+impl fmt::Display for Fraction {
+    fn fmt<W: fmt::Write>(&self, f: &mut fmt::Formatter<W>) -> fmt::Result {
+        if self.rest == 0 {
+            return write!(f, "{}", self.whole);
+        }
+        if self.whole > 0 {
+            write!(f, "{} ", self.whole)?;
+        }
+        write!(f, "{}/{}", self.rest, self.q)
+    }
 }
 
 // The line of a listed depot.
@@ -69,9 +94,8 @@ pub fn group_line(x: Figures, k: usize) -> GroupLine
     requires { (k < x.plan.count) × Computed x }
     ensures { (result ≡ group_line (net x.list) (groups_of (net x.list)) k) × (0 < result.size) }
 {
-    let plan = x.plan;
     GroupLine {
-        depots: plan.groups[k],
+        depots: x.plan.groups[k],
         litres: x.litres[k],
         size: x.sizes[k],
     }
@@ -109,9 +133,9 @@ pub fn site_line(x: Figures, i: usize) -> SiteLine
 // x q-ths as a mixed fraction.
 pub fn mixed(x: u64, q: u64) -> Fraction
     requires { 0 < q }
-    ensures { (x ≡ result.whole * q + result.rest) × (result.rest < q) }
+    ensures { (x ≡ result.whole * q + result.rest) × (result.rest < q) × (result.q ≡ q) }
 {
     let whole = x / q;
     let rest = x % q;
-    Fraction { whole, rest }
+    Fraction { whole, rest, q }
 }

@@ -12,16 +12,10 @@ pub fn loads(mut from: [u64; 64], list: ListArray, shares: &[u64], wholes: &[u64
     requires { ((k : ℕ) → k < 64 → get_or from k 0 ≤ 2 ^ 51) × Parts list shares.now wholes.now }
     ensures { Holds result (λ d. get_or from d 0 + sum (part_of list shares.now wholes.now d) list.count) 64 }
 {
-    let mut i: usize = 0;
-    while i < list.count {
-        let s = list.sites[i];
-        let a = s.first as usize;
-        let b = s.second as usize;
-        let x = shares[i];
-        let y = wholes[i] - x;
-        from[a] = from[a] + x;
-        from[b] = from[b] + y;
-        i += 1;
+    for (i, &s) in list.sites[..list.count].iter().enumerate() {
+        let share = shares[i];
+        from[s.first as usize] += share;
+        from[s.second as usize] += wholes[i] - share;
     }
     from
 }

@@ -11,7 +11,8 @@ use contract.Notation.{connectives}
 use types.Logic.{Logic}
 use base.Logic.{SProp}
 use denote.Ref.{Bor, MutBor}
-use Rattle.records.specs.declared.Wrote.{Wrote}
+use Rattle.std.specs.declared.result.Result.{Result}
+use Rattle.records.specs.declared.refusal.Refusal.{Refusal}
 use Rattle.records.specs.Format.{edition_of, read_list}
 use Rattle.maker.specs.Make.{Made}
 use Rattle.maker.specs.contracts.make as of-make
@@ -19,7 +20,7 @@ use Rattle.maker.specs.contracts.make as of-make
 module _ {M : Type 1} {𝓤 : Ura M} (𝓛 : Logic 𝓤) (mem : Memory → SProp 𝓤) (run : Routine → Fun 𝓤) (κs : Lfts 2) (list : Bor (List ℕ)) (out : MutBor (List ℕ)) where
   open connectives 𝓤 use {⌜◌⌝, ⊤ₛ}
 
-  make-says : (r : Wrote) (list' : Bor (List ℕ)) (out' : MutBor (List ℕ))
+  make-says : (r : Result ℕ Refusal) (list' : Bor (List ℕ)) (out' : MutBor (List ℕ))
       → (of-make.clauses 𝓛 mem run κs (list, (out, tt))).ensures tt r (list', (out', tt)) ≡ ⌜ Made (edition_of list.now) (read_list (edition_of list.now) 512 list.now) out.now r out'.now ⌝
   make-says r list' out' = refl
 

@@ -14,7 +14,7 @@ use Rattle.density.specs.Examples.{own, starred}
 use Rattle.density.proofs.Lists.{valid}
 use Rattle.density.proofs.Examples.{starred-known}
 use Rattle.density.proofs.Existence.{decomposition-is}
-use Rattle.records.specs.declared.Wrote.TheVariants.{Length}
+use Rattle.std.specs.declared.result.Result.TheVariants.{Ok}
 use Rattle.records.specs.Bytes.{value}
 use Rattle.records.specs.Record.{records}
 use Rattle.records.specs.Outcome.{passed}
@@ -47,8 +47,8 @@ groups-O : groups_of (network sites_o) ≡ 1 ∷ []
 unfolding starred
 groups-O = sym (decomposition-is (network sites_o) (valid sites_o in-range-O) (1 ∷ []) (starred-known 2 (lit< tt)).plan.groups)
 
-pub not-one-plan : (out out' last last' : List ℕ) (n n' : ℕ) → Made (edition_of list_t) (read_list (edition_of list_t) 512 list_t) out (Length n) last
-    → Made (edition_of list_own) (read_list (edition_of list_own) 512 list_own) out' (Length n') last' → take n last ≡ take n' last' → ⊥
+pub not-one-plan : (out out' last last' : List ℕ) (n n' : ℕ) → Made (edition_of list_t) (read_list (edition_of list_t) 512 list_t) out (Ok n) last
+    → Made (edition_of list_own) (read_list (edition_of list_own) 512 list_own) out' (Ok n') last' → take n last ≡ take n' last' → ⊥
 unfolding value
 not-one-plan out out' last last' n n' m m' e =
     let g = groups-written edition1 list_t out last n T-read m in

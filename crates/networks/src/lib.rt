@@ -1,8 +1,10 @@
 // Lists to test with, and plans that differ a little from a given one.
 #![tactic(auto)]
 
+ghost use Rattle.std.specs.Prelude.{◌<◌, ◌≤◌};
+
 use density::Site;
-use records::{ListArray, PlanArray, RollArray};
+use records::{ListArray, PlanArray, RollArray, no_roll};
 
 // How many lists `small` has: the multisets of up to 4 of 30 kinds of site.
 pub const SMALL: usize = 46376;
@@ -16,49 +18,36 @@ pub fn no_sites() -> ListArray {
             second: 0,
             litres: 0,
         }; 512],
-        roll: RollArray {
-            there: false,
-            crews: [0; 64],
-        },
+        roll: no_roll(),
     }
 }
 
 // The list with one site more at its end, where there is a place.
-pub fn with_site(list: ListArray, first: u8, second: u8, litres: u32) -> ListArray {
+pub fn with_site(mut list: ListArray, first: u8, second: u8, litres: u32) -> ListArray {
     let at = list.count;
-    let mut sites = list.sites;
-    let roll = list.roll;
-    if at < 512 {
-        sites[at] = Site {
+    if let Some(place) = list.sites.get_mut(at) {
+        *place = Site {
             first,
             second,
             litres,
         };
-        return ListArray {
-            count: at + 1,
-            sites,
-            roll,
-        };
+        list.count = at + 1;
     }
     list
 }
 
 // The list with a roll.
-pub fn with_crews(list: ListArray, crews: [u8; 64]) -> ListArray {
-    let sites = list.sites;
-    ListArray {
-        count: list.count,
-        sites,
-        roll: RollArray { there: true, crews },
-    }
+pub fn with_crews(mut list: ListArray, crews: [u8; 64]) -> ListArray {
+    list.roll = RollArray { there: true, crews };
+    list
 }
 
 // The list with a roll of as many crews at each depot below n, and none at the others.
 pub fn with_crews_below(list: ListArray, n: usize, each: u8) -> ListArray {
     let mut crews = [0u8; 64];
-    for d in 0..64 {
+    for (d, place) in crews.iter_mut().enumerate() {
         if d < n {
-            crews[d] = each;
+            *place = each;
         }
     }
     with_crews(list, crews)
@@ -74,75 +63,65 @@ pub fn no_groups() -> PlanArray {
 }
 
 // The plan with one group more at its end, where there is a place.
-pub fn with_group(plan: PlanArray, set: u64) -> PlanArray {
+pub fn with_group(mut plan: PlanArray, set: u64) -> PlanArray {
     let at = plan.count;
-    let mut groups = plan.groups;
-    let shares = plan.shares;
-    if at < 64 {
-        groups[at] = set;
-        return PlanArray {
-            count: at + 1,
-            groups,
-            shares,
-        };
+    if let Some(place) = plan.groups.get_mut(at) {
+        *place = set;
+        plan.count = at + 1;
     }
     plan
 }
 
 // The plan with the share of site i, where there is a place.
-pub fn with_share(plan: PlanArray, i: usize, s: u64) -> PlanArray {
-    let mut shares = plan.shares;
-    let groups = plan.groups;
-    if i < 512 {
-        shares[i] = s;
+pub fn with_share(mut plan: PlanArray, i: usize, s: u64) -> PlanArray {
+    if let Some(place) = plan.shares.get_mut(i) {
+        *place = s;
     }
-    PlanArray {
-        count: plan.count,
-        groups,
-        shares,
-    }
+    plan
 }
 
-// The pairs of depots 0 to 3, each as 4 × first + second.
-const PAIRS: [u8; 10] = [0, 1, 2, 3, 5, 6, 7, 10, 11, 15];
+// The pairs of depots 0 to 3.
+const PAIRS: [(u8, u8); 10] = [
+    (0, 0),
+    (0, 1),
+    (0, 2),
+    (0, 3),
+    (1, 1),
+    (1, 2),
+    (1, 3),
+    (2, 2),
+    (2, 3),
+    (3, 3),
+];
 
 // Each place's own number.
 fn numbers() -> [usize; 32] {
-    let mut out = [0usize; 32];
-    for k in 0..32 {
-        out[k] = k;
+    let mut out = [0; 32];
+    for (k, place) in out.iter_mut().enumerate() {
+        *place = k;
     }
     out
 }
 
 // At each place the sum of the numbers up to it. From the multisets of j of the kinds below k, for each k, this makes those of j + 1.
-fn sums(counts: [usize; 32]) -> [usize; 32] {
-    let mut out = [0usize; 32];
+fn sums(mut counts: [usize; 32]) -> [usize; 32] {
     let mut sum: usize = 0;
-    for k in 0..32 {
-        sum = std::num::wrapping_add_usize(sum, counts[k]);
-        out[k] = sum;
+    for count in counts.iter_mut() {
+        sum = sum.wrapping_add(*count);
+        *count = sum;
     }
-    out
+    counts
 }
 
-// The last place whose number is at most n, of rising numbers.
-fn last_at_most(counts: [usize; 32], n: usize) -> usize {
-    let mut last: usize = 0;
-    for k in 0..32 {
-        if counts[k] <= n {
-            last = k;
+// The last place whose number is at most n, of rising numbers from 0, and how much n is above that number.
+fn last_at_most(counts: &[usize; 32], n: usize) -> (usize, usize) {
+    let mut last = (0, n);
+    for (k, count) in counts.iter().enumerate() {
+        if *count <= n {
+            last = (k, n - *count);
         }
     }
     last
-}
-
-// n less the number at place k
-fn less(n: usize, counts: [usize; 32], k: usize) -> usize {
-    if k < 32 {
-        return std::num::wrapping_sub_usize(n, counts[k]);
-    }
-    0
 }
 
 // The list with a site of kind 1 to 30 more: a pair of depots below 4 and 1 to 3 litres.
@@ -150,13 +129,11 @@ fn with_kind(list: ListArray, kind: usize) -> ListArray {
     if kind == 0 {
         return list;
     }
-    let pair = (kind - 1) / 3;
-    if pair < 10 {
-        let x = PAIRS[pair];
-        let litres = ((kind - 1) % 3) as u32;
-        return with_site(list, x / 4, x % 4, litres + 1);
+    let place = kind - 1;
+    match PAIRS.get(place / 3) {
+        Some((first, second)) => with_site(list, *first, *second, (place % 3) as u32 + 1),
+        None => list,
     }
-    list
 }
 
 // The n-th list, n < SMALL, of up to 4 sites over the pairs of depots below 4, with 1 to 3 litres each, kinds not falling. Kind 0 stands for no site.
@@ -164,28 +141,18 @@ pub fn small(n: usize) -> ListArray {
     let twos = sums(numbers());
     let threes = sums(twos);
     let fours = sums(threes);
-    let d = last_at_most(fours, n);
-    let three = less(n, fours, d);
-    let c = last_at_most(threes, three);
-    let two = less(three, threes, c);
-    let b = last_at_most(twos, two);
-    let a = less(two, twos, b);
+    let (d, three) = last_at_most(&fours, n);
+    let (c, two) = last_at_most(&threes, three);
+    let (b, a) = last_at_most(&twos, two);
     with_kind(with_kind(with_kind(with_kind(no_sites(), a), b), c), d)
 }
 
-// The next number of a xorshift generator; x is not 0.
-fn next(x: u64) -> u64 {
-    let a = x ^ (x << 13);
-    let b = a ^ (a >> 7);
-    b ^ (b << 17)
-}
-
-// A number below m, if m is not 0.
+// A number of a xorshift generator, as one below m, if m is not 0.
 fn below(x: u64, m: u64) -> u64 {
     if m == 0 { 0 } else { (x >> 20) % m }
 }
 
-// A number from 1 to m, if it fits.
+// As one from 1 to m, if it fits.
 fn up_to(x: u64, m: u64) -> u32 {
     let y = below(x, m);
     if y < 65535 {
@@ -195,7 +162,40 @@ fn up_to(x: u64, m: u64) -> u32 {
 }
 
 fn byte(x: u64) -> u8 {
-    if x < 256 { x as u8 } else { 0 }
+    u8::try_from(x).unwrap_or(0)
+}
+
+// A xorshift generator, at the number that comes next; it is not 0.
+#[derive(Clone, Copy)]
+struct Generator(u64);
+
+impl Generator {
+    fn new(seed: u64, k: u64) -> Generator {
+        let mut from = Generator((k << 1) | 1);
+        from.skip();
+        let mut generator = Generator(seed.wrapping_add(from.0) | 1);
+        generator.skip();
+        generator
+    }
+
+    // Leaves three numbers out.
+    fn skip(&mut self) {
+        for _ in 0..3 {
+            self.draw();
+        }
+    }
+
+    fn draw(&mut self) -> u64 {
+        let x = self.0;
+        let a = x ^ (x << 13);
+        let b = a ^ (a >> 7);
+        self.0 = b ^ (b << 17);
+        x
+    }
+
+    fn draw_below(&mut self, m: u64) -> u64 {
+        below(self.draw(), m)
+    }
 }
 
 // The most litres of a site, small or large.
@@ -208,58 +208,37 @@ fn most_litres(choice: u64) -> u64 {
     }
 }
 
-fn start(seed: u64, k: u64) -> u64 {
-    let a = next(next(next((k << 1) | 1)));
-    next(next(next(std::num::wrapping_add_u64(seed, a) | 1)))
-}
-
 // The k-th pseudo-random list of a seed: up to 10 depots, up to 14 sites, in any order, own and parallel ones among them.
 pub fn random(seed: u64, k: u64) -> ListArray {
-    let from = start(seed, k);
-    let depots = std::num::wrapping_add_u64(below(from, 10), 1);
-    let second = next(from);
-    let count = below(second, 15);
-    let third = next(second);
-    let most = most_litres(below(third, 4));
-    let mut x = third;
+    let mut numbers = Generator::new(seed, k);
+    let depots = numbers.draw_below(10).wrapping_add(1);
+    let count = numbers.draw_below(15);
+    let most = most_litres(below(numbers.0, 4));
     let mut list = no_sites();
-    for i in 0..14u64 {
-        if i < count {
-            let a = next(x);
-            let b = next(a);
-            x = next(b);
-            list = with_site(
-                list,
-                byte(below(a, depots)),
-                byte(below(b, depots)),
-                up_to(x, most),
-            );
-        }
+    numbers.draw();
+    for _ in 0..count {
+        let first = byte(numbers.draw_below(depots));
+        let second = byte(numbers.draw_below(depots));
+        list = with_site(list, first, second, up_to(numbers.draw(), most));
     }
     list
 }
 
-// The crews of a depot in the k-th pseudo-random roll: 1 to 9, often the same.
-fn some_crews(x: u64) -> u8 {
-    match below(x, 4) {
+// The crews of a depot in a pseudo-random roll: 1 to 9, often the same.
+fn some_crews(choice: u64, number: u64) -> u8 {
+    match below(choice, 4) {
         0 => 1,
         1 => 9,
-        _ => byte(std::num::wrapping_add_u64(below(next(x), 9), 1)),
+        _ => byte(below(number, 9).wrapping_add(1)),
     }
 }
 
 // Does a site name the depot?
-fn is_named(list: ListArray, depot: u8) -> bool {
-    for i in 0..512 {
-        if list.count <= i {
-            return false;
-        }
-        let site = list.sites[i];
-        if site.first == depot || site.second == depot {
-            return true;
-        }
-    }
-    false
+fn is_named(list: &ListArray, depot: u8) -> bool {
+    list.sites
+        .iter()
+        .take(list.count)
+        .any(|site| site.first == depot || site.second == depot)
 }
 
 // Has a depot that no site names crews? By choice none has, one of four, every second, or all.
@@ -274,27 +253,28 @@ fn is_chosen(x: u64, choice: u64) -> bool {
 
 // The list with the k-th pseudo-random roll of a seed: 1 to 9 crews at each depot that a site names, and at none, some or all of the others below `most`.
 pub fn rolled(list: ListArray, most: usize, seed: u64, k: u64) -> ListArray {
-    let mut x = start(seed, k);
-    let choice = below(x, 4);
+    let mut numbers = Generator::new(seed, k);
+    let choice = below(numbers.0, 4);
+    numbers.skip();
     let mut crews = [0u8; 64];
-    for d in 0..64 {
-        x = next(next(next(x)));
-        let more = d < most && is_chosen(next(next(x)), choice);
-        if more || is_named(list, d as u8) {
-            crews[d] = some_crews(x);
+    for (d, place) in crews.iter_mut().enumerate() {
+        let kind = numbers.draw();
+        let number = numbers.draw();
+        let more = is_chosen(numbers.draw(), choice) && d < most;
+        if more || is_named(&list, d as u8) {
+            *place = some_crews(kind, number);
         }
     }
     with_crews(list, crews)
 }
 
 // The set of the depots with crews that no site names.
-pub fn isolated(list: ListArray) -> u64 {
+pub fn isolated(list: &ListArray) -> u64 {
     let mut set: u64 = 0;
-    let roll = list.roll;
-    if roll.there {
+    if list.roll.there {
         for d in 0..64u8 {
-            if roll.crews[d as usize] != 0 && !is_named(list, d) {
-                set = set | (1 << d);
+            if list.roll.crews[d as usize] != 0 && !is_named(list, d) {
+                set |= 1 << d;
             }
         }
     }
@@ -302,144 +282,86 @@ pub fn isolated(list: ListArray) -> u64 {
 }
 
 // The group at place p, empty where the plan has none.
-pub fn group_at(plan: PlanArray, p: usize) -> u64 {
-    if p < 64 {
-        return plan.groups[p];
-    }
-    0
+pub fn group_at(plan: &PlanArray, p: usize) -> u64 {
+    plan.groups.get(p).copied().unwrap_or(0)
 }
 
 // The plan with another set at place p, where it has a group there.
-fn with_group_at(plan: PlanArray, p: usize, set: u64) -> PlanArray {
-    let mut groups = plan.groups;
-    let shares = plan.shares;
-    if p < 64 && p < plan.count {
-        groups[p] = set;
-    }
-    PlanArray {
-        count: plan.count,
-        groups,
-        shares,
-    }
-}
-
-// The groups with those from place p + 1 on one place earlier.
-fn closed(groups: [u64; 64], p: usize) -> [u64; 64] {
-    let mut out = groups;
-    for k in 0..63 {
-        if p <= k {
-            out[k] = groups[k + 1];
-        }
-    }
-    out[63] = 0;
-    out
-}
-
-// The groups with those from place p on one place later.
-fn opened(groups: [u64; 64], p: usize) -> [u64; 64] {
-    let mut out = groups;
-    for k in 0..63 {
-        if p <= k {
-            out[k + 1] = groups[k];
-        }
-    }
-    out
-}
-
-// The plan without the group at place p, where there is one.
-fn without_group(plan: PlanArray, p: usize) -> PlanArray {
+fn with_group_at(mut plan: PlanArray, p: usize, set: u64) -> PlanArray {
     if p < plan.count {
-        let old = plan.groups;
-        let groups = closed(old, p);
-        let shares = plan.shares;
-        return PlanArray {
-            count: plan.count - 1,
-            groups,
-            shares,
-        };
+        if let Some(place) = plan.groups.get_mut(p) {
+            *place = set;
+        }
     }
     plan
 }
 
-// The plan with one group more, at place p, where there is a place.
-fn with_group_before(plan: PlanArray, p: usize, set: u64) -> PlanArray {
-    let n = plan.count;
-    if 63 < n {
-        return plan;
+// The plan without the group at place p, where there is one: those behind it move one place down.
+fn without_group(mut plan: PlanArray, p: usize) -> PlanArray {
+    if p < plan.count && p < 64 {
+        plan.groups.copy_within(p + 1.., p);
+        plan.groups[63] = 0;
+        plan.count -= 1;
     }
-    if n < p {
-        return plan;
+    plan
+}
+
+// The plan with one group more, at place p, where there is a place: those from there on move one place up.
+fn with_group_before(mut plan: PlanArray, p: usize, set: u64) -> PlanArray {
+    if plan.count < 64 && p <= plan.count {
+        plan.groups.copy_within(p..63, p + 1);
+        plan.groups[p] = set;
+        plan.count += 1;
     }
-    let old = plan.groups;
-    let groups = opened(old, p);
-    let shares = plan.shares;
-    let more = PlanArray {
-        count: n + 1,
-        groups,
-        shares,
-    };
-    with_group_at(more, p, set)
+    plan
 }
 
 // The set of the lowest depot of a set.
 fn lowest(set: u64) -> u64 {
-    set & std::num::wrapping_sub_u64(0, set)
+    set & set.wrapping_neg()
 }
 
-fn share_at(plan: PlanArray, i: usize) -> u64 {
-    if i < 512 {
-        return plan.shares[i];
-    }
-    0
+fn share_at(plan: &PlanArray, i: usize) -> u64 {
+    plan.shares.get(i).copied().unwrap_or(0)
 }
 
 // The plan with the share of site i, where the list has one.
-fn changed(list: ListArray, plan: PlanArray, i: usize, s: u64) -> PlanArray {
+fn changed(list: &ListArray, plan: PlanArray, i: usize, s: u64) -> PlanArray {
     if i < list.count {
         return with_share(plan, i, s);
     }
     plan
 }
 
-fn one_more(list: ListArray, plan: PlanArray, i: usize) -> PlanArray {
-    changed(
-        list,
-        plan,
-        i,
-        std::num::wrapping_add_u64(share_at(plan, i), 1),
-    )
+fn one_more(list: &ListArray, plan: PlanArray, i: usize) -> PlanArray {
+    let s = share_at(&plan, i).wrapping_add(1);
+    changed(list, plan, i, s)
 }
 
 // 0 stays 0.
-fn one_less(list: ListArray, plan: PlanArray, i: usize) -> PlanArray {
-    let s = share_at(plan, i);
-    if s == 0 {
-        return plan;
-    }
-    changed(list, plan, i, s - 1)
+fn one_less(list: &ListArray, plan: PlanArray, i: usize) -> PlanArray {
+    let s = share_at(&plan, i).saturating_sub(1);
+    changed(list, plan, i, s)
 }
 
-fn exchanged(list: ListArray, plan: PlanArray, i: usize, j: usize) -> PlanArray {
-    if i < list.count && j < list.count {
-        return with_share(with_share(plan, i, share_at(plan, j)), j, share_at(plan, i));
+fn exchanged(list: &ListArray, mut plan: PlanArray, i: usize, j: usize) -> PlanArray {
+    let n = list.count.min(512);
+    if i < n && j < n {
+        plan.shares.swap(i, j);
     }
     plan
 }
 
-fn no_shares(plan: PlanArray) -> PlanArray {
-    let groups = plan.groups;
-    PlanArray {
-        count: plan.count,
-        groups,
-        shares: [0; 512],
-    }
+fn no_shares(mut plan: PlanArray) -> PlanArray {
+    plan.shares = [0; 512];
+    plan
 }
 
 // The groups at places p and p + 1 in one.
 fn merged(plan: PlanArray, p: usize) -> PlanArray {
-    let q = std::num::wrapping_add_usize(p, 1);
+    let q = p.wrapping_add(1);
     if q < plan.count {
-        let set = group_at(plan, p) | group_at(plan, q);
+        let set = group_at(&plan, p) | group_at(&plan, q);
         return without_group(with_group_at(plan, p, set), q);
     }
     plan
@@ -447,26 +369,22 @@ fn merged(plan: PlanArray, p: usize) -> PlanArray {
 
 // The group at place p in two, its lowest depot in the first of them or in the second.
 fn split(plan: PlanArray, p: usize, first: bool) -> PlanArray {
-    let set = group_at(plan, p);
+    let set = group_at(&plan, p);
     let low = lowest(set);
     let rest = set & !low;
     if p < plan.count && rest != 0 {
-        if first {
-            return with_group_before(with_group_at(plan, p, rest), p, low);
-        }
-        return with_group_before(with_group_at(plan, p, low), p, rest);
+        let (before, at) = if first { (low, rest) } else { (rest, low) };
+        return with_group_before(with_group_at(plan, p, at), p, before);
     }
     plan
 }
 
 fn swapped(plan: PlanArray, p: usize) -> PlanArray {
-    let q = std::num::wrapping_add_usize(p, 1);
+    let q = p.wrapping_add(1);
     if q < plan.count {
-        return with_group_at(
-            with_group_at(plan, p, group_at(plan, q)),
-            q,
-            group_at(plan, p),
-        );
+        let set = group_at(&plan, p);
+        let other = group_at(&plan, q);
+        return with_group_at(with_group_at(plan, p, other), q, set);
     }
     plan
 }
@@ -474,103 +392,123 @@ fn swapped(plan: PlanArray, p: usize) -> PlanArray {
 // The lowest depot of the group at place p goes to the group at place q.
 fn moved(plan: PlanArray, p: usize, q: usize) -> PlanArray {
     if p < plan.count && q < plan.count {
-        let set = group_at(plan, p);
+        let set = group_at(&plan, p);
         let low = lowest(set);
-        return with_group_at(
-            with_group_at(plan, p, set & !low),
-            q,
-            group_at(plan, q) | low,
-        );
+        let more = group_at(&plan, q) | low;
+        return with_group_at(with_group_at(plan, p, set & !low), q, more);
     }
     plan
 }
 
-fn litres_at(list: ListArray, i: usize) -> u64 {
-    if i < 512 {
-        let site = list.sites[i];
-        return site.litres as u64;
-    }
-    0
+fn litres_at(list: &ListArray, i: usize) -> u64 {
+    list.sites.get(i).map_or(0, |site| site.litres as u64)
 }
 
-// The plan with one share at place p or some from there on changed, in one of 9 ways.
-fn change_shares(list: ListArray, plan: PlanArray, kind: usize, p: usize) -> PlanArray {
-    let q = std::num::wrapping_add_usize(p, 1);
-    match kind {
-        0 => one_more(list, plan, p),
-        1 => one_less(list, plan, p),
-        2 => exchanged(list, plan, p, q),
-        3 => one_more(list, one_less(list, plan, q), p),
-        4 => one_more(list, one_more(list, plan, q), p),
-        5 => {
-            let r = std::num::wrapping_add_usize(p, 2);
-            one_more(list, one_more(list, one_less(list, plan, r), q), p)
+// How a plan is changed at a place p: its shares there and behind it, or its groups.
+#[derive(Clone, Copy)]
+enum Change {
+    OneMore,
+    OneLess,
+    Exchanged,
+    LessBehind,
+    TwoMore,
+    TwoMoreOneLess,
+    Nothing,
+    LitresMore,
+    NoShares,
+    Merged,
+    SplitFirst,
+    SplitSecond,
+    Swapped,
+    Without,
+    EmptyBefore,
+    MovedUp,
+    MovedDown,
+    Twice,
+    OtherDepot,
+    WithoutLowest,
+}
+
+// Each change.
+const CHANGES: [Change; 20] = [
+    Change::OneMore,
+    Change::OneLess,
+    Change::Exchanged,
+    Change::LessBehind,
+    Change::TwoMore,
+    Change::TwoMoreOneLess,
+    Change::Nothing,
+    Change::LitresMore,
+    Change::NoShares,
+    Change::Merged,
+    Change::SplitFirst,
+    Change::SplitSecond,
+    Change::Swapped,
+    Change::Without,
+    Change::EmptyBefore,
+    Change::MovedUp,
+    Change::MovedDown,
+    Change::Twice,
+    Change::OtherDepot,
+    Change::WithoutLowest,
+];
+
+impl Change {
+    // The plan changed at place p; unchanged where it has nothing to change there.
+    fn at(self, list: &ListArray, plan: PlanArray, p: usize) -> PlanArray {
+        let q = p.wrapping_add(1);
+        let set = group_at(&plan, p);
+        match self {
+            Change::OneMore => one_more(list, plan, p),
+            Change::OneLess => one_less(list, plan, p),
+            Change::Exchanged => exchanged(list, plan, p, q),
+            Change::LessBehind => one_more(list, one_less(list, plan, q), p),
+            Change::TwoMore => one_more(list, one_more(list, plan, q), p),
+            Change::TwoMoreOneLess => {
+                let less = one_less(list, plan, p.wrapping_add(2));
+                one_more(list, one_more(list, less, q), p)
+            }
+            Change::Nothing => changed(list, plan, p, 0),
+            Change::LitresMore => {
+                let s = share_at(&plan, p).wrapping_add(litres_at(list, p));
+                changed(list, plan, p, s)
+            }
+            Change::NoShares => no_shares(plan),
+            Change::Merged => merged(plan, p),
+            Change::SplitFirst => split(plan, p, true),
+            Change::SplitSecond => split(plan, p, false),
+            Change::Swapped => swapped(plan, p),
+            Change::Without => without_group(plan, p),
+            Change::EmptyBefore => with_group_before(plan, p, 0),
+            Change::MovedUp => moved(plan, p, q),
+            Change::MovedDown => moved(plan, q, p),
+            Change::Twice => with_group(plan, set),
+            Change::OtherDepot => with_group_at(plan, p, set | 2048),
+            Change::WithoutLowest => with_group_at(plan, p, set & !lowest(set)),
         }
-        6 => changed(list, plan, p, 0),
-        7 => changed(
-            list,
-            plan,
-            p,
-            std::num::wrapping_add_u64(share_at(plan, p), litres_at(list, p)),
-        ),
-        _ => no_shares(plan),
     }
 }
-
-// The plan with its groups at place p changed, in one of 11 ways, 9 to 19.
-fn change_groups(plan: PlanArray, kind: usize, p: usize) -> PlanArray {
-    let q = std::num::wrapping_add_usize(p, 1);
-    let set = group_at(plan, p);
-    match kind {
-        9 => merged(plan, p),
-        10 => split(plan, p, true),
-        11 => split(plan, p, false),
-        12 => swapped(plan, p),
-        13 => without_group(plan, p),
-        14 => with_group_before(plan, p, 0),
-        15 => moved(plan, p, q),
-        16 => moved(plan, q, p),
-        17 => with_group(plan, set),
-        18 => with_group_at(plan, p, set | 2048),
-        19 => with_group_at(plan, p, set & !lowest(set)),
-        _ => plan,
-    }
-}
-
-// The plan changed at place p in one of KINDS ways; unchanged where it has nothing to change there.
-fn change(list: ListArray, plan: PlanArray, kind: usize, p: usize) -> PlanArray {
-    if kind < 9 {
-        return change_shares(list, plan, kind, p);
-    }
-    change_groups(plan, kind, p)
-}
-
-const KINDS: usize = 20;
 
 // The number of places: of sites or of groups, whichever are more, and at least 1.
-fn places(list: ListArray, plan: PlanArray) -> usize {
-    let n = list.count;
-    let m = plan.count;
-    if 512 < n || 64 < m {
+fn places(list: &ListArray, plan: &PlanArray) -> usize
+    ensures { (0 < result) × (result ≤ 512) }
+{
+    if 512 < list.count || 64 < plan.count {
         return 1;
     }
-    if n < m {
-        return m;
-    }
-    if n == 0 { 1 } else { n }
+    list.count.max(plan.count).max(1)
 }
 
 // How many variants a plan has.
-pub fn variants(list: ListArray, plan: PlanArray) -> usize {
-    let n = places(list, plan);
-    if n < 1024 { KINDS * n } else { 0 }
+pub fn variants(list: &ListArray, plan: &PlanArray) -> usize {
+    CHANGES.len() * places(list, plan)
 }
 
 // The k-th plan near the given one: one share, or some, or one group changed. Most are false where the plan is true.
-pub fn variant(list: ListArray, plan: PlanArray, k: usize) -> PlanArray {
-    let n = places(list, plan);
-    if n == 0 {
-        return plan;
+pub fn variant(list: &ListArray, plan: PlanArray, k: usize) -> PlanArray {
+    let n = places(list, &plan);
+    match CHANGES.get(k / n) {
+        Some(change) => change.at(list, plan, k % n),
+        None => plan,
     }
-    change(list, plan, k / n, k % n)
 }

@@ -2,7 +2,7 @@
 // The arrays are those of residual.
 #![tactic(auto)]
 
-ghost use Rattle.std.specs.Prelude.{◌≡◌, ◌-◌, ◌<◌, min, ltb, length};
+ghost use Rattle.std.specs.Prelude.{◌≡◌, ◌<◌, ltb, length};
 ghost use Rattle.residual.specs.Array.{at};
 ghost use Rattle.residual.specs.Search.{reverse};
 ghost use Rattle.residual.specs.Moves.{shift, Room, Loaded, Movable, Pushed, ArcAt, ExcessPushed};
@@ -12,8 +12,8 @@ fn transfer(xs: &mut [u64], i: usize, k: usize, m: u64)
     requires { Room xs.old i k m }
     ensures { xs.new ≡ shift xs.old i k m }
 {
-    xs[i] = xs[i] - m;
-    xs[k] = xs[k] + m;
+    xs[i] -= m;
+    xs[k] += m;
 }
 
 // Moves m of the share on arc j to its reverse.
@@ -27,25 +27,6 @@ fn push(ends: &[usize], share: &mut [u64], load: &mut [u64], j: usize, m: u64)
     let v = ends[p];
     transfer(share, j, p, m);
     transfer(load, u, v, m);
-}
-
-fn least(a: u64, b: u64) -> u64
-    ensures { result ≡ min a b }
-{
-    if a < b {
-        return a;
-    }
-    b
-}
-
-// What `have` has above `goal`, as far as `give` goes.
-fn spare(have: u64, goal: u64, give: u64) -> u64
-    ensures { result ≡ min (have - goal) give }
-{
-    if have <= goal {
-        return 0;
-    }
-    least(have - goal, give)
 }
 
 // Whether the depot at the other end of arc j comes before u in the order.
@@ -75,7 +56,7 @@ pub fn push_excess(
     if !leads_earlier(ends, rank, u, j) {
         return;
     }
-    let m = spare(load[u], target[u], share[j]);
+    let m = load[u].saturating_sub(target[u]).min(share[j]);
     if m == 0 {
         return;
     }

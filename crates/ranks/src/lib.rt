@@ -6,24 +6,13 @@ ghost use Rattle.sets.specs.Set.{set_of};
 ghost use Rattle.residual.specs.Array.{at};
 ghost use Rattle.residual.specs.Rounds.{Cleared};
 
-fn most(a: usize, b: usize) -> usize
-    ensures { result ≡ max a b }
-{
-    if a < b {
-        return b;
-    }
-    a
-}
-
 // Takes every depot out of the order.
 pub fn clear(rank: &mut [usize])
     requires { length rank.old ≡ 64 }
     ensures { Cleared rank.old rank.new }
 {
-    let mut d: usize = 0;
-    while d < 64 {
-        rank[d] = most(rank[d], 64);
-        d += 1;
+    for place in rank.iter_mut() {
+        *place = (*place).max(64);
     }
 }
 
@@ -33,13 +22,10 @@ pub fn unreached(rank: &[usize]) -> u64
     ensures { result ≡ set_of (λ d. eqb (at rank.now d) 64) 64 }
 {
     let mut set: u64 = 0;
-    let mut d: usize = 0;
-    while d < 64 {
-        let place = rank[d];
-        if place == 64 {
+    for (d, place) in rank.iter().enumerate() {
+        if *place == 64 {
             set = sets::with(set, d as u8);
         }
-        d += 1;
     }
     set
 }

@@ -111,9 +111,3 @@ module _ (w n : ℕ) (s : List ℕ) (b : Bytes s) (k : w ≤ 4) (few : n ≤ 512
         depots = tests_same w (λ (x : SiteBody). x.depot) wrong_depot recs a (λ r. refl) j;
         litres = tests_same w (λ (x : SiteBody). x.litres) (no_litres w) recs a (λ r. refl) j;
       })
-
--- ---- at a width that is known
-
--- what reading all records asks of the bytes
-pub at_width : (w v a k n l : ℕ) → w ≡ v → a + 10 * k + (2 + w) * n ≤ l → a + 10 * k + (2 + v) * n ≤ l
-at_width w v a k n l e h = rw e at h

@@ -13,12 +13,12 @@ use Rattle.records.specs.Format.{site_size, site_count, list_size, rolled}
 use Rattle.scanner.specs.declared.End.{End}
 use Rattle.scanner.specs.Scan.{AllRead}
 use Rattle.scanner.proofs.Turns.{nothing-follows}
-use Rattle.records.specs.declared.Read.TheVariants.{Count}
+use Rattle.records.specs.Outcome.{passed}
 use Rattle.readers.specs.Head.{list_head, plan_head}
 use Rattle.readers.proofs.Heads.{list-headed, plan-headed}
 
 -- of a list, which has no groups: they end there or, where they end in a roll, this stands there and they end behind its 66 bytes
-pub list-ends : (e : Edition) (places : ℕ) (s : List ℕ) {n : ℕ} → Count n ≡ list_head e places s
+pub list-ends : (e : Edition) (places : ℕ) (s : List ℕ) {n : ℕ} → passed n ≡ list_head e places s
     → (g m : ℕ) {r : End} {sets out : List ℕ} → AllRead s 4 g 0 (2 + e.litres) m n r sets out
     → (r.at ≡ list_size e (site_count s)) × (drop (cond (rolled e s) (r.at + 66) r.at) s ≡ [])
 list-ends e places s {n} h g m {r = r} x =
@@ -36,6 +36,6 @@ list-ends e places s {n} h g m {r = r} x =
         drop_of_length-le s (let all : length s ≤ r.at = omega arith in all)
 
 -- of a plan
-pub plan-ends : (e : Edition) (sites : ℕ) (s : List ℕ) {n : ℕ} → Count n ≡ plan_head e sites s
+pub plan-ends : (e : Edition) (sites : ℕ) (s : List ℕ) {n : ℕ} → passed n ≡ plan_head e sites s
     → (g m : ℕ) {r : End} {sets out : List ℕ} → AllRead s 5 g n e.share m sites r sets out → drop r.at s ≡ []
 plan-ends e sites s h g m x = nothing-follows x (plan-headed e sites s h).size

@@ -4,32 +4,22 @@ use mathlib.Core.Bool.{Bool, true, false, cond, ◌&&◌, ◌||◌}
 use mathlib.Core.Option.{none, some}
 use mathlib.Core.List.{List, [], ◌∷◌}
 use mathlib.Core.Path.{◌≡◌, refl, ap, sym, ◌∙◌}
-use native.Mathlib.Nat.{mul-le-mul_right}
 use native.Mathlib.Omega.{arith}
 use borrow.Author.Tests.{ltb-false, eqb-true, not-false}
 use lib.Dec.{ltb, eqb}
 use lib.ListN.{length, take, drop}
 use Rattle.density.specs.Rows.{Row, row, first_row}
 use Rattle.records.specs.declared.Edition.{Edition}
-use Rattle.records.specs.declared.Read.TheVariants.{Count, Refused}
 use Rattle.records.specs.Record.{any_of, wrong_mark}
 use Rattle.sets.proofs.Test.{fails}
 use Rattle.records.specs.declared.RollRead.{RollRead}
 use Rattle.records.specs.Values.{roll_array}
 use Rattle.records.specs.Answer.{roll_at, roll_read}
-use Rattle.records.specs.Outcome.{Outcome, refused, passed, gate}
+use Rattle.records.specs.Outcome.{refused, passed, gate}
 use Rattle.records.specs.Format.{list_size, rolled, roll_record, listing_of, list_rows, layout_rows, site_count, read_list, group_count, group_records, share_size, share_records, plan_of, read_plan}
 use Rattle.records.proofs.Outcomes.{Clear, clear, or-false}
 use Rattle.records.proofs.RoundTrip.{list-size}
-use Rattle.readers.specs.Head.{head_read, list_head, plan_head}
-
-counted : (o : Outcome ℕ) {n : ℕ} → Count n ≡ head_read o → o ≡ passed n
-counted (refused k) h = let z : ◌≡◌ {A = ℕ} 0 1 = cc in absurd (omega arith)
-counted (passed k) h = cc
-
-refuses : (o : Outcome ℕ) {n : ℕ} → Refused n ≡ head_read o → o ≡ refused n
-refuses (refused k) h = cc
-refuses (passed k) h = let z : ◌≡◌ {A = ℕ} 0 1 = cc in absurd (omega arith)
+use Rattle.readers.specs.Head.{list_head, plan_head}
 
 -- a row among the first k that refuses, refuses; where none of them applies, the others are left
 first-refuses : {A B : Type 0} (k : ℕ) (rows : List Row) (a : A) (b : B) {n : ℕ} → gate (take k rows) a ≡ refused n → gate rows b ≡ refused n
@@ -53,10 +43,10 @@ pub record ListHeaded (e : Edition) (places : ℕ) (s : List ℕ) (n : ℕ) : Ty
   pub size : list_size e n ≤ length s
   pub rest : read_list e places s ≡ gate (drop 3 (list_rows e places s)) (listing_of e s)
 
-pub list-headed : (e : Edition) (places : ℕ) (s : List ℕ) {n : ℕ} → Count n ≡ list_head e places s → ListHeaded e places s n
+pub list-headed : (e : Edition) (places : ℕ) (s : List ℕ) {n : ℕ} → passed n ≡ list_head e places s → ListHeaded e places s n
 unfolding read_list
 list-headed e places s h =
-    let c = clear (take 3 (list_rows e places s)) (counted (gate (take 3 (list_rows e places s)) (site_count s)) h) in
+    let c = clear (take 3 (list_rows e places s)) (sym h) in
     let many = or-false (ltb 512 (site_count s)) (ltb places (site_count s)) c.0.1.0 in
     record {
       count = c.1;
@@ -66,15 +56,9 @@ list-headed e places s h =
       rest = others-left 3 (list_rows e places s) (listing_of e s) c.0;
     }
 
-pub list-head-refused : (e : Edition) (places : ℕ) (s : List ℕ) {n : ℕ} → Refused n ≡ list_head e places s → read_list e places s ≡ refused n
+pub list-head-refused : (e : Edition) (places : ℕ) (s : List ℕ) {n : ℕ} → refused n ≡ list_head e places s → read_list e places s ≡ refused n
 unfolding read_list
-list-head-refused e places s h = first-refuses 3 (list_rows e places s) (site_count s) (listing_of e s) (refuses (gate (take 3 (list_rows e places s)) (site_count s)) h)
-
--- the records of at most 512 sites have at most 4,096 bytes
-pub sites-small : {w n : ℕ} → w ≤ 4 → n ≤ 512 → (4 + w) * n ≤ 4096
-sites-small {w = w} {n = n} l k =
-    let each : 4 + w ≤ 8 = omega arith in
-    omega (arith, mul-le-mul_right n each)
+list-head-refused e places s h = first-refuses 3 (list_rows e places s) (site_count s) (listing_of e s) (sym h)
 
 -- what stands behind the sites: a roll where the length tells of one, or none
 module _ (e : Edition) (s : List ℕ) (n : ℕ) (q : site_count s ≡ n) where
@@ -104,10 +88,10 @@ pub record PlanHeaded (e : Edition) (sites : ℕ) (s : List ℕ) (n : ℕ) : Typ
   pub size : length s ≡ 5 + 10 * n + share_size e * sites
   pub rest : read_plan e sites s ≡ gate (drop 4 (layout_rows e sites s)) (plan_of e sites s)
 
-pub plan-headed : (e : Edition) (sites : ℕ) (s : List ℕ) {n : ℕ} → Count n ≡ plan_head e sites s → PlanHeaded e sites s n
+pub plan-headed : (e : Edition) (sites : ℕ) (s : List ℕ) {n : ℕ} → passed n ≡ plan_head e sites s → PlanHeaded e sites s n
 unfolding read_plan
 plan-headed e sites s h =
-    let c = clear (take 4 (layout_rows e sites s)) (counted (gate (take 4 (layout_rows e sites s)) (group_count s)) h) in
+    let c = clear (take 4 (layout_rows e sites s)) (sym h) in
     record {
       count = c.1;
       few = omega (arith, c.1, ltb-false 64 (group_count s) c.0.1.0);
@@ -115,9 +99,9 @@ plan-headed e sites s h =
       rest = others-left 4 (layout_rows e sites s) (plan_of e sites s) c.0;
     }
 
-pub plan-head-refused : (e : Edition) (sites : ℕ) (s : List ℕ) {n : ℕ} → Refused n ≡ plan_head e sites s → read_plan e sites s ≡ refused n
+pub plan-head-refused : (e : Edition) (sites : ℕ) (s : List ℕ) {n : ℕ} → refused n ≡ plan_head e sites s → read_plan e sites s ≡ refused n
 unfolding read_plan
-plan-head-refused e sites s h = first-refuses 4 (layout_rows e sites s) (group_count s) (plan_of e sites s) (refuses (gate (take 4 (layout_rows e sites s)) (group_count s)) h)
+plan-head-refused e sites s h = first-refuses 4 (layout_rows e sites s) (group_count s) (plan_of e sites s) (sym h)
 
 -- row 11, behind a head that gives a count
 module _ (e : Edition) (sites : ℕ) (s : List ℕ) {n : ℕ} (h : PlanHeaded e sites s n) where

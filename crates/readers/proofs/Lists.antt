@@ -14,11 +14,10 @@ use Rattle.records.specs.declared.Edition.{Edition}
 use Rattle.records.specs.declared.RollArray.{RollArray}
 use Rattle.records.specs.declared.RollRead.{RollRead}
 use Rattle.records.specs.declared.SitesRead.{SitesRead}
-use Rattle.records.specs.declared.ListRead.{ListRead}
-use Rattle.records.specs.declared.Read.TheVariants.{Count}
+use Rattle.records.specs.declared.ListArray.{ListArray}
 use Rattle.records.specs.Values.{roll_in, roll_array}
 use Rattle.records.specs.Record.{any_of, wrong_mark}
-use Rattle.records.specs.Outcome.{refused, gate}
+use Rattle.records.specs.Outcome.{Outcome, refused, passed, gate}
 use Rattle.records.specs.Answer.{filled, sites_read, roll_read, list_read}
 use Rattle.records.specs.Format.{read_list, list_rows, listing_of, rolled, roll_record, roll_of, sites_of, site_records, site_count, site_of}
 use Rattle.records.proofs.Answers.{roll-array}
@@ -102,6 +101,6 @@ module _ {e : Edition} {places : ℕ} {s : List ℕ} {n : ℕ} {r : SitesRead} {
   row-23 p t = p ∙ rw (named ∙ t)
 
   pub all_read : RowsLeft e places s 8
-      → ◌≡◌ {A = ListRead} (record { answer = Count n; list = record { count = n; sites = r.sites; roll = k.roll } }) (list_read (read_list e places s))
+      → ◌≡◌ {A = Outcome ListArray} (passed (record { count = n; sites = r.sites; roll = k.roll })) (list_read (read_list e places s))
   unfolding first_row
   all_read p = rw p (cc (count-is, ap (λ (x : SitesRead). x.sites) sites-are, roll-is))

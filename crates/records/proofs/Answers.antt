@@ -10,32 +10,28 @@ use lib.Seq.{take-append_seam}
 use Rattle.density.specs.Network.{Listing, in_range}
 use Rattle.records.specs.declared.Edition.{Edition}
 use Rattle.records.specs.declared.ListArray.{ListArray}
-use Rattle.records.specs.declared.ListRead.{ListRead}
-use Rattle.records.specs.declared.PlanRead.{PlanRead}
-use Rattle.records.specs.declared.Read.TheVariants.{Count, Refused}
+use Rattle.records.specs.declared.PlanArray.{PlanArray}
 use Rattle.records.specs.Values.{Plan, roll_in, roll_array, listing, plan_in}
 use Rattle.records.specs.Outcome.{Outcome, refused, passed}
 use Rattle.records.specs.Answer.{list_array, plan_array, list_read, plan_read}
 use Rattle.records.specs.Format.{read_list}
 use Rattle.records.proofs.RoundTrip.{list-few, list-range}
 
--- a count: something was read, and the value is it
-pub list_counted : (o : Outcome Listing) {n : ℕ} → Count n ≡ (list_read o).answer
-    → (l : Listing) × (o ≡ passed l) × (length l.sites ≡ n) × ((list_read o).list ≡ list_array l)
-list_counted (refused k) h = let z : ◌≡◌ {A = ℕ} 0 1 = cc in absurd (omega arith)
-list_counted (passed l) h = (l, refl, cc, refl)
+-- something was read, and the value is it
+pub list-passed : (o : Outcome Listing) {a : ListArray} → passed a ≡ list_read o → (l : Listing) × (o ≡ passed l) × (a ≡ list_array l)
+list-passed (refused k) h = let z : ◌≡◌ {A = ℕ} 0 1 = cc in absurd (omega arith)
+list-passed (passed l) h = (l, refl, cc)
 
-pub plan-counted : (o : Outcome Plan) {n : ℕ} → Count n ≡ (plan_read o).answer
-    → (p : Plan) × (o ≡ passed p) × (length p.groups ≡ n) × ((plan_read o).plan ≡ plan_array p)
-plan-counted (refused k) h = let z : ◌≡◌ {A = ℕ} 0 1 = cc in absurd (omega arith)
-plan-counted (passed p) h = (p, refl, cc, refl)
+pub plan-passed : (o : Outcome Plan) {a : PlanArray} → passed a ≡ plan_read o → (p : Plan) × (o ≡ passed p) × (a ≡ plan_array p)
+plan-passed (refused k) h = let z : ◌≡◌ {A = ℕ} 0 1 = cc in absurd (omega arith)
+plan-passed (passed p) h = (p, refl, cc)
 
 -- a refusal is that row's
-pub list-refused : (o : Outcome Listing) {n : ℕ} → Refused n ≡ (list_read o).answer → o ≡ refused n
+pub list-refused : (o : Outcome Listing) {n : ℕ} → refused n ≡ list_read o → o ≡ refused n
 list-refused (refused k) h = cc
 list-refused (passed l) h = let z : ◌≡◌ {A = ℕ} 0 1 = cc in absurd (omega arith)
 
-pub plan-refused : (o : Outcome Plan) {n : ℕ} → Refused n ≡ (plan_read o).answer → o ≡ refused n
+pub plan-refused : (o : Outcome Plan) {n : ℕ} → refused n ≡ plan_read o → o ≡ refused n
 plan-refused (refused k) h = cc
 plan-refused (passed p) h = let z : ◌≡◌ {A = ℕ} 0 1 = cc in absurd (omega arith)
 
@@ -51,29 +47,21 @@ pub plan-array : (p : Plan) → plan_in (plan_array p) (length p.shares) ≡ p
 plan-array p = rw (take-append_seam, take-append_seam)
 
 -- a list that was read, by its array
-module _ (o : Outcome Listing) {x : ListRead} {n : ℕ} (is : x ≡ list_read o) (count : x.answer ≡ Count n) where
-  read-in : (l : Listing) × (o ≡ passed l) × (x.list ≡ list_array l)
-  read-in =
-      let k = list_counted o (sym count ∙ ap (λ (y : ListRead). y.answer) is) in
-      (k.0, k.1, ap (λ (y : ListRead). y.list) is ∙ k.3)
+module _ (o : Outcome Listing) {x : ListArray} (is : passed x ≡ list_read o) where
+  read-in : (l : Listing) × (o ≡ passed l) × (x ≡ list_array l)
+  read-in = list-passed o is
 
-  pub list-is : o ≡ passed (listing x.list)
+  pub list-is : o ≡ passed (listing x)
   list-is = read-in.1 ∙ ap passed (sym (ap listing read-in.2 ∙ listing-array read-in.0))
 
-  pub list-sized : length (listing x.list).sites ≡ x.list.count
+  pub list-sized : length (listing x).sites ≡ x.count
   list-sized =
       subst (λ (y : ListArray). length (listing y).sites ≡ y.count) (sym read-in.2) (ap (λ (l : Listing). length l.sites) (listing-array read-in.0))
 
   -- where it was read from bytes as one of at most 512 sites
   module _ (e : Edition) (s : List ℕ) (reads : (l : Listing) → o ≡ passed l → read_list e 512 s ≡ passed l) where
-    pub array-few : x.list.count ≤ 512
-    array-few = subst (λ k. k ≤ 512) list-sized (list-few e 512 s (reads (listing x.list) list-is)).0
+    pub array-few : x.count ≤ 512
+    array-few = subst (λ k. k ≤ 512) list-sized (list-few e 512 s (reads (listing x) list-is)).0
 
-    pub array-range : T (in_range (listing x.list))
-    array-range = list-range e 512 s (reads (listing x.list) list-is)
-
-pub list-refused-by : (o : Outcome Listing) {x : ListRead} {n : ℕ} → x ≡ list_read o → x.answer ≡ Refused n → o ≡ refused n
-list-refused-by o is h = list-refused o (sym h ∙ ap (λ (y : ListRead). y.answer) is)
-
-pub plan-refused-by : (o : Outcome Plan) {x : PlanRead} {n : ℕ} → x ≡ plan_read o → x.answer ≡ Refused n → o ≡ refused n
-plan-refused-by o is h = plan-refused o (sym h ∙ ap (λ (y : PlanRead). y.answer) is)
+    pub array-range : T (in_range (listing x))
+    array-range = list-range e 512 s (reads (listing x) list-is)

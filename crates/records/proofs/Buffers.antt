@@ -12,15 +12,18 @@ use mathlib.Core.Bool.{Bool, true, false, cond}
 use borrow.Rule.Slice.PartMut.{put_mid}
 use Rattle.records.specs.Bytes.{le}
 use Rattle.records.specs.Values.{Plan}
-use Rattle.records.specs.Outcome.{gate}
 use Rattle.records.specs.Format.{site_size, list_size}
 use Rattle.records.specs.Write.{place, onto, mark_bytes, site_bytes, roll_bytes, list_bytes, plan_bytes, is_short, wrote_of, Written}
 use Rattle.density.specs.declared.Site.{Site}
 use Rattle.density.specs.Network.{Listing}
 use Rattle.density.specs.Rows.{row, first_row}
 use Rattle.records.specs.declared.Edition.{Edition}
-use Rattle.records.specs.declared.Wrote.{Wrote}
-use Rattle.records.specs.declared.Wrote.TheVariants.{Length, Refused}
+use Rattle.std.specs.declared.result.Result.{Result}
+use Rattle.std.specs.declared.result.Result.TheVariants.{Ok, Err}
+use Rattle.records.specs.declared.refusal.Refusal.{Refusal}
+use Rattle.records.specs.declared.refusal.Refusal.TheVariants as by
+use Rattle.records.specs.Outcome.{refused, passed, gate}
+use Rattle.records.specs.Refusals.{outcome}
 use Rattle.records.proofs.Bytes.{length-le}
 use Rattle.records.proofs.Records.{from-part}
 
@@ -118,24 +121,24 @@ pub front-lent : {p d out ys : List ℕ} {at k : ℕ} (q : List ℕ) → length 
 front-lent {out = out} {at = at} q h f e = front-next q h f (ap (put_mid at (length out - at) out) e ∙ front-part at q out)
 
 -- what a writer answers where the bytes fit, and where they do not
-pub written : {bytes d out : List ℕ} {n : ℕ} → n ≤ length d → Front bytes d out n → Written bytes d (Length n) out
+pub written : {bytes d out : List ℕ} {n : ℕ} → n ≤ length d → Front bytes d out n → Written bytes d (Ok n) out
 unfolding first_row
 written {bytes} {d} h f =
     let t : is_short d bytes ≡ false = le-ltb (length d) (length bytes) (omega (arith, f.size)) in
     record { answer = rw (t, f.size); buffer = rw t f.is }
 
-pub too_short : (bytes : List ℕ) {d : List ℕ} (n : ℕ) → length bytes ≡ n → length d < n → Written bytes d (Refused 20) d
+pub too_short : (bytes : List ℕ) {d : List ℕ} (n : ℕ) → length bytes ≡ n → length d < n → Written bytes d (Err by.BufferShort) d
 unfolding first_row
 too_short bytes {d} n e h =
     let t : is_short d bytes ≡ true = lt-ltb (length d) (length bytes) (omega (arith, e)) in
     record { answer = rw t; buffer = rw t }
 
 -- what it answered: row 20, or the length
-pub answered : (bytes d : List ℕ) {r : Wrote} {out : List ℕ} → Written bytes d r out → r ≡ cond (is_short d bytes) (Refused 20) (Length (length bytes))
+pub answered : (bytes d : List ℕ) {r : Result ℕ Refusal} {out : List ℕ} → Written bytes d r out → outcome r ≡ cond (is_short d bytes) (refused 20) (passed (length bytes))
 unfolding first_row
 answered bytes d w = w.answer ∙ by-room (is_short d bytes)
   where
-    by-room : (t : Bool) → wrote_of (gate (row 20 t ∷ []) bytes) ≡ cond t (Refused 20) (Length (length bytes))
+    by-room : (t : Bool) → wrote_of (gate (row 20 t ∷ []) bytes) ≡ cond t (refused 20) (passed (length bytes))
     by-room true = refl
     by-room false = refl
 

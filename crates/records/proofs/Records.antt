@@ -2,7 +2,9 @@
 use Prim.Native.Nat.{ℕ, zero, suc, ◌+◌, ◌*◌, ◌-◌, ◌/◌, ◌%◌, ◌<◌, ◌≤◌}
 use mathlib.Core.Bool.{Bool, true, false, cond, ◌||◌}
 use mathlib.Core.List.{List, [], ◌∷◌, ◌++◌, map}
-use mathlib.Core.Path.{◌≡◌, refl, ap, ◌∙◌}
+use mathlib.Core.Path.{◌≡◌, refl, ap, sym, ◌∙◌}
+use Rattle.std.proofs.Math.Bool.{or_assoc, or-false}
+use Rattle.std.specs.List.{list_any}
 use lib.Dec.{ltb}
 use lib.ListN.{length, take, drop, get_or, set, replicate, length-drop, length-replicate}
 use lib.Seq.{take_all, take-length, drop-drop, take-suc, set_at, length-take-le, append_snoc}
@@ -13,13 +15,14 @@ use Rattle.sets.specs.Sum.{any}
 use Rattle.sets.proofs.Test.{is_false, fails}
 use Rattle.sets.proofs.Sum.{any_at, any-from}
 use borrow.Author.Tests.{le-ltb, ltb-true, ltb-false}
-use Rattle.records.proofs.Outcomes.{or-false}
+use Rattle.records.proofs.Outcomes.{or-false as neither}
 use Rattle.records.specs.Bytes.{Bytes, field}
 use Rattle.records.proofs.Bytes.{field-first, field-part, field-small, bytes_take, bytes_drop}
 use Rattle.records.specs.Answer.{filled}
 use Rattle.records.specs.Record.{records, any_of, step_at}
 use Rattle.records.specs.Write.{All}
-use Rattle.records.specs.declared.Step.TheVariants.{Record, End}
+use Rattle.records.specs.declared.Found.{Found}
+use Rattle.std.specs.Prelude.{Some, None}
 
 -- the part `&s[k..]`
 pub from-part : (s : List ℕ) (k : ℕ) → take (length s - k) (drop k s) ≡ drop k s
@@ -75,6 +78,18 @@ filled-front n k e h = rw (e, h, zeros-behind n k)
 pub any_step : (f : ℕ → Bool) (i : ℕ) → any f (i + 1) ≡ (any f i || f i)
 unfolding any
 any_step f i = rw add-one
+
+-- the first number that is tested, and the others
+any_first : (f : ℕ → Bool) (n : ℕ) → any f (suc n) ≡ (f 0 || any (λ i. f (suc i)) n)
+unfolding any
+any_first f zero = sym (or-false (f 0))
+any_first f (suc n) = ap (λ (b : Bool). b || f (suc n)) (any_first f n) ∙ or_assoc (f 0) (any (λ i. f (suc i)) n) (f (suc n))
+
+-- a test of the elements of a list, as a test of their indices
+pub list_any-any : {A : Type 0} (p : A → Bool) (d : A) (xs : List A) → list_any p xs ≡ any (λ i. p (get_or xs i d)) (length xs)
+unfolding any
+list_any-any p d [] = refl
+list_any-any p d (x ∷ xs) = ap (λ (b : Bool). p x || b) (list_any-any p d xs) ∙ sym (any_first (λ i. p (get_or (x ∷ xs) i d)) (length xs))
 
 -- one record more that is tested, and all of them
 pub test-next : (p : List ℕ → Bool) (rs : List (List ℕ)) (i : ℕ) {b x y : Bool} → b ≡ any (λ j. p (get_or rs j [])) i → x ≡ p (get_or rs i []) → y ≡ (b || x)
@@ -162,19 +177,19 @@ module _ (s : List ℕ) (at w : ℕ) (b : Bytes s) (l : at + (4 + w) ≤ length 
       omega (arith, body-parts, field-small rec 2 1 c, field-small rec 3 1 c)
 
 -- what a step says: a record, or that there is none
-pub step-read : (s : List ℕ) (at w : ℕ) {m b k : ℕ} → Record m b k ≡ step_at s at w
-    → (at + (2 + w) ≤ length s) × (m ≡ field s at 2) × (b ≡ field s (at + 2) w)
-step-read s at w h =
+pub step-read : (s : List ℕ) (at w : ℕ) {x : Found} → Some x ≡ step_at s at w
+    → (at + (2 + w) ≤ length s) × (x.mark ≡ field s at 2) × (x.body ≡ field s (at + 2) w)
+step-read s at w {x} h =
     let c = read-cases (ltb 8 w || ltb (length s) (at + (2 + w))) h in
-    (ltb-false (length s) (at + (2 + w)) (or-false (ltb 8 w) (ltb (length s) (at + (2 + w))) c.0).1, cc c.1, cc c.1)
+    (ltb-false (length s) (at + (2 + w)) (neither (ltb 8 w) (ltb (length s) (at + (2 + w))) c.0).1, ap (λ (y : Found). y.mark) c.1, ap (λ (y : Found). y.body) c.1)
   where
-    read-cases : (t : Bool) {m b k m' b' k' : ℕ} → Record m b k ≡ cond t End (Record m' b' k') → (t ≡ false) × (Record m b k ≡ Record m' b' k')
+    read-cases : (t : Bool) {x y : Found} → Some x ≡ cond t None (Some y) → (t ≡ false) × (x ≡ y)
     read-cases true h = let z : ◌≡◌ {A = ℕ} 0 1 = cc in absurd (omega arith)
-    read-cases false h = (refl, h)
+    read-cases false h = (refl, cc h)
 
-pub step_end : (s : List ℕ) (at w : ℕ) → w ≤ 8 → End ≡ step_at s at w → length s < at + (2 + w)
-step_end s at w h e = ltb-true (length s) (at + (2 + w)) (end-cases (ltb (length s) (at + (2 + w))) (field s at 2) (field s (at + 2) w) (at + (2 + w)) (rw (le-ltb 8 w h) at e))
+pub step_end : (s : List ℕ) (at w : ℕ) → w ≤ 8 → None ≡ step_at s at w → length s < at + (2 + w)
+step_end s at w h e = ltb-true (length s) (at + (2 + w)) (end-cases (ltb (length s) (at + (2 + w))) (record { mark = field s at 2; body = field s (at + 2) w; next = at + (2 + w) }) (rw (le-ltb 8 w h) at e))
   where
-    end-cases : (t : Bool) (m b k : ℕ) → End ≡ cond t End (Record m b k) → t ≡ true
-    end-cases true m b k h = refl
-    end-cases false m b k h = let z : ◌≡◌ {A = ℕ} 0 1 = cc in absurd (omega arith)
+    end-cases : (t : Bool) (x : Found) → None ≡ cond t None (Some x) → t ≡ true
+    end-cases true x h = refl
+    end-cases false x h = let z : ◌≡◌ {A = ℕ} 0 1 = cc in absurd (omega arith)

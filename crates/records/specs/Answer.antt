@@ -1,24 +1,16 @@
 -- The readers' answers: the paper's number and the value of each case.
-use Rattle.std.specs.Prelude.{ℕ, ◌+◌, ◌-◌, List, [], ◌++◌, map, ◌≡◌, ◌&&◌, length, drop, replicate}
-use Rattle.std.proofs.Math.Option.{none, some}
+use Rattle.std.specs.Prelude.{ℕ, ◌+◌, ◌-◌, List, ◌++◌, map, ◌&&◌, length, drop, replicate}
+use Rattle.std.proofs.Math.Option.{some}
 use Rattle.density.specs.Network.{Listing, no_site}
 use Rattle.records.specs.declared.ListArray.{ListArray}
 use Rattle.records.specs.declared.PlanArray.{PlanArray}
-use Rattle.records.specs.declared.ListRead.{ListRead}
-use Rattle.records.specs.declared.PlanRead.{PlanRead}
 use Rattle.records.specs.declared.SitesRead.{SitesRead}
 use Rattle.records.specs.declared.RollRead.{RollRead}
 use Rattle.records.specs.declared.Edition.{Edition}
-use Rattle.records.specs.declared.Read.{Read}
-use Rattle.records.specs.declared.Read.TheVariants.{Count, Refused}
 use Rattle.records.specs.Values.{Plan, roll_array}
 use Rattle.records.specs.Record.{records, any_of, wrong_mark}
 use Rattle.records.specs.Format.{site_of, wrong_depot, no_litres, rolled, roll_record, roll_of}
 use Rattle.records.specs.Outcome.{Outcome, refused, passed}
-
--- the answer is a refusal
-abbrev pub Refuses : Read → Type 0
-Refuses r = (n : ℕ) × (r ≡ Refused n)
 
 -- a row of n places: these, and then zeros
 abbrev pub filled : {A : Type 0} → ℕ → List A → A → List A
@@ -51,11 +43,11 @@ roll_at m r = record { mark = wrong_mark m r; roll = roll_array (some (drop 2 r)
 abbrev pub roll_read : Edition → List ℕ → RollRead
 roll_read e s = record { mark = rolled e s && wrong_mark e.mark.roll (roll_record e s); roll = roll_array (roll_of e s) }
 
--- the row that refuses and a value that is empty, or the count and the value
-abbrev pub list_read : Outcome Listing → ListRead
-list_read (refused n) = record { answer = Refused n; list = list_array (record { sites = []; roll = none }) }
-list_read (passed l) = record { answer = Count (length l.sites); list = list_array l }
+-- the row that refuses, or the value
+abbrev pub list_read : Outcome Listing → Outcome ListArray
+list_read (refused n) = refused n
+list_read (passed l) = passed (list_array l)
 
-abbrev pub plan_read : Outcome Plan → PlanRead
-plan_read (refused n) = record { answer = Refused n; plan = plan_array (record { groups = []; shares = [] }) }
-plan_read (passed p) = record { answer = Count (length p.groups); plan = plan_array p }
+abbrev pub plan_read : Outcome Plan → Outcome PlanArray
+plan_read (refused n) = refused n
+plan_read (passed p) = passed (plan_array p)

@@ -2,6 +2,7 @@ pub mod Values
 pub mod Bytes
 pub mod Record
 pub mod Outcome
+pub mod Refusals
 pub mod Format
 pub mod Answer
 pub mod Write

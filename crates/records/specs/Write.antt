@@ -9,8 +9,9 @@ use Rattle.records.specs.Bytes.{le}
 use Rattle.records.specs.Values.{Plan}
 use Rattle.records.specs.Outcome.{Outcome, refused, passed, gate}
 use Rattle.records.specs.declared.Edition.{Edition}
-use Rattle.records.specs.declared.Wrote.{Wrote}
-use Rattle.records.specs.declared.Wrote.TheVariants.{Length, Refused}
+use Rattle.std.specs.declared.result.Result.{Result}
+use Rattle.records.specs.declared.refusal.Refusal.{Refusal}
+use Rattle.records.specs.Refusals.{outcome}
 
 -- a record of a mark and one number of w bytes
 abbrev pub mark_bytes : ℕ → ℕ → ℕ → List ℕ
@@ -52,9 +53,9 @@ abbrev pub fitted : List ℕ → List ℕ → Outcome (List ℕ)
 fitted bytes out = gate (row 20 (is_short out bytes) ∷ []) bytes
 
 -- "every writer answers the length it wrote" (document 02, b): the row that refuses, or the length of the bytes found
-abbrev pub wrote_of : Outcome (List ℕ) → Wrote
-wrote_of (refused n) = Refused n
-wrote_of (passed bytes) = Length (length bytes)
+abbrev pub wrote_of : Outcome (List ℕ) → Outcome ℕ
+wrote_of (refused n) = refused n
+wrote_of (passed bytes) = passed (length bytes)
 
 -- the buffer then: as it was, or with the bytes found at its front
 abbrev pub buffer_of : Outcome (List ℕ) → List ℕ → List ℕ
@@ -62,12 +63,12 @@ buffer_of (refused n) out = out
 buffer_of (passed bytes) out = onto bytes out
 
 -- what an entry with one buffer answers and leaves, by what it found
-pub record WrittenOf (o : Outcome (List ℕ)) (out : List ℕ) (r : Wrote) (last : List ℕ) : Type 0 where
-  pub answer : r ≡ wrote_of o
+pub record WrittenOf (o : Outcome (List ℕ)) (out : List ℕ) (r : Result ℕ Refusal) (last : List ℕ) : Type 0 where
+  pub answer : outcome r ≡ wrote_of o
   pub buffer : last ≡ buffer_of o out
 
 -- and what a writer of these bytes does
-abbrev pub Written : List ℕ → List ℕ → Wrote → List ℕ → Type 0
+abbrev pub Written : List ℕ → List ℕ → Result ℕ Refusal → List ℕ → Type 0
 Written bytes out r last = WrittenOf (fitted bytes out) out r last
 
 -- the bytes are the plan's, "laid out for" the list "as under Records": at most 64 groups, each a set of depots below 64, and a share for each site

@@ -3,18 +3,20 @@
 
 ghost use Rattle.std.specs.Prelude.{◌≡◌};
 ghost use Rattle.std.proofs.Math.Option.{none};
-ghost use Rattle.records.specs.declared.Read.TheVariants.{Refused};
-ghost use Rattle.records.specs.Answer.{Refuses};
+ghost use Rattle.density.specs.Network.{no_site};
 ghost use Rattle.records.specs.Format.{edition1, edition2};
 ghost use Rattle.records.specs.Values.{roll_array};
 
 use density::Site;
+pub use refusal::Refusal;
 
 pub mod number;
+pub mod refusal;
 pub mod roll;
 pub mod scan;
 
 // A roll as a value, or none: where it is there, the crews of each depot.
+// Kept: no `Option`, since the bytes of a store hold 64 crews beside the flag, also where it is 0.
 #[derive(Clone, Copy)]
 pub struct RollArray {
     pub there: bool,
@@ -22,6 +24,7 @@ pub struct RollArray {
 }
 
 // A list as a value: its first `count` places are the sites.
+// Kept: a count beside an array, here and in a plan, since memory is fixed and nothing is on the heap.
 #[derive(Clone, Copy)]
 pub struct ListArray {
     pub count: usize,
@@ -49,6 +52,7 @@ pub struct Marks {
 }
 
 // An edition of the two formats: its marks, the bytes of a site's litres and of a share, and whether a list may end in a roll.
+// Kept: no invariant holds the widths, and `roll` is a flag: the definitions and the theorems speak of any edition.
 #[derive(Clone, Copy)]
 pub struct Edition {
     pub mark: Marks,
@@ -107,58 +111,34 @@ pub fn edition2() -> Edition
     }
 }
 
-// What stands at a position: a record's mark, its body and the position behind it; or no record.
+// The record found at a position: its mark, its body, and the position behind it.
 #[derive(Clone, Copy)]
-pub enum Step {
-    Record(u64, u64, usize),
-    End,
+pub struct Found {
+    pub mark: u64,
+    pub body: u64,
+    pub next: usize,
 }
 
-// What a reader answers: how many sites or groups were read, or the row that refuses.
-#[derive(Clone, Copy)]
-pub enum Read {
-    Count(usize),
-    Refused(u8),
-}
-
-// The row of an answer that refuses, so that a caller can hand the refusal on.
-pub fn row_of(answer: Read) -> u8
-    requires { Refuses answer }
-    ensures { answer ≡ Refused result }
+// What a place without a site holds. As a function's answer it is one number to the compiler, which then fills 512 places at once.
+pub fn no_site() -> Site
+    ensures { result ≡ no_site }
 {
-    match answer {
-        Read::Refused(n) => n,
-        Read::Count(_) => 0,
+    Site {
+        first: 0,
+        second: 0,
+        litres: 0,
     }
 }
 
+// The lengths of a list and of a plan that were written.
 #[derive(Clone, Copy)]
-pub struct ListRead {
-    pub answer: Read,
-    pub list: ListArray,
-}
-
-#[derive(Clone, Copy)]
-pub struct PlanRead {
-    pub answer: Read,
-    pub plan: PlanArray,
-}
-
-// What a writer answers: the length written, or the row that refuses.
-#[derive(Clone, Copy)]
-pub enum Wrote {
-    Length(usize),
-    Refused(u8),
-}
-
-// What a writer of a list and of a plan answers: the lengths written, the list's first, or the row that refuses.
-#[derive(Clone, Copy)]
-pub enum WroteBoth {
-    Lengths(usize, usize),
-    Refused(u8),
+pub struct Lengths {
+    pub list: usize,
+    pub plan: usize,
 }
 
 // What a roll's record says: whether its mark is wrong, and the roll; or there is none.
+// Kept: `mark`, and the flags of `SitesRead`, are what tests found, beside a value that is always there.
 #[derive(Clone, Copy)]
 pub struct RollRead {
     pub mark: bool,

@@ -8,15 +8,14 @@ pub fn value(s: &[u8]) -> u64
     ensures { Value s.now result }
 {
     let mut v: u64 = 0;
-    let mut i = s.len();
-    while 0 < i {
-        i -= 1;
-        v = v * 256 + (s[i] as u64);
+    for b in s.iter().rev() {
+        v = v * 256 + u64::from(*b);
     }
     v
 }
 
-// Numbers of one, two, four, six and eight bytes at a place of `s`, without a loop.
+// Numbers of one, two, four, six and eight bytes at a place of `s`.
+// Kept: a function for each width of an edition, so that none is read by a loop at run time.
 fn one(s: &[u8], at: usize) -> u64
     requires { at + 1 ≤ length s.now }
     ensures { Value (take 1 (drop at s.now)) result }
@@ -77,10 +76,8 @@ pub fn put(out: &mut [u8], x: u64)
     ensures { out.new ≡ le (length out.old) x }
 {
     let mut rest = x;
-    let mut i = 0;
-    while i < out.len() {
-        out[i] = (rest % 256) as u8;
-        rest = rest / 256;
-        i += 1;
+    for b in out.iter_mut() {
+        *b = (rest % 256) as u8;
+        rest /= 256;
     }
 }

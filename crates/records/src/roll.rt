@@ -4,7 +4,7 @@ ghost use Rattle.sets.specs.Sum.{any};
 ghost use Rattle.density.specs.Network.{no_site, crews_of, crews_above, uncrewed};
 ghost use Rattle.records.specs.Values.{roll_in};
 
-use crate::{RollArray, scan};
+use crate::RollArray;
 use density::Site;
 
 // The 64 bytes of `s` from a place on.
@@ -13,6 +13,7 @@ pub fn bytes_at(s: &[u8], at: usize) -> [u8; 64]
     ensures { result ≡ take 64 (drop at s.now) }
 {
     let mut crews = [0u8; 64];
+    // Kept: a loop, here and in `is_above`: by `copy_from_slice` and `any` the reader of a list took 8 KB more of stack, and Make more than the header states.
     let mut d: usize = 0;
     while d < 64 {
         crews[d] = s[at + d];
@@ -55,7 +56,9 @@ pub fn is_above(roll: RollArray) -> bool
 pub fn is_uncrewed(roll: RollArray, s: Site) -> bool
     ensures { result ≡ uncrewed (roll_in roll) s }
 {
-    scan::either(crews_at(roll, s.first) == 0, crews_at(roll, s.second) == 0)
+    let first = crews_at(roll, s.first) == 0;
+    let second = crews_at(roll, s.second) == 0;
+    first || second
 }
 
 // Row 23, of the first n sites.
@@ -63,16 +66,5 @@ pub fn any_uncrewed(roll: RollArray, sites: [Site; 512], n: usize) -> bool
     requires { n ≤ 512 }
     ensures { result ≡ any (λ i. uncrewed (roll_in roll) (get_or sites i no_site)) n }
 {
-    if !roll.there {
-        return false;
-    }
-    let mut i: usize = 0;
-    while i < n {
-        let s = sites[i];
-        if is_uncrewed(roll, s) {
-            return true;
-        }
-        i += 1;
-    }
-    false
+    roll.there && sites[..n].iter().any(|s| is_uncrewed(roll, *s))
 }

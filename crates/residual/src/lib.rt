@@ -2,6 +2,7 @@
 // A site i has two arcs: i at its first depot and i + 512 at its second.
 // ends[j] is the depot of arc j, or 64 where there is no site; share[j] is what that depot has of the site.
 // rank[d] is the place of depot d in the search order, 64 where it is not reached, 65 where it takes no part.
+// Kept: the lists go one by one and not as a struct of slices, as the definitions of specs/ take them.
 #![tactic(auto)]
 
 ghost use Rattle.std.specs.Prelude.{◌≡◌, ◌<◌};
@@ -53,6 +54,7 @@ fn scan(
 {
     let mut n = start;
     let mut j = chain[1024 + v];
+    // Kept: each arc of the chain names the next; an iterator would have to carry that each is in range.
     while 0 < j {
         let p = reverse(j - 1);
         n = enqueue(share[p], ends[p], n, order, rank);
@@ -76,6 +78,7 @@ pub fn reach(
 {
     let mut n = start;
     let mut k: usize = 0;
+    // Kept: a queue, which grows while it is read.
     while k < n {
         let v = order[k];
         n = scan(ends, chain, share, v, n, order, rank);

@@ -1,26 +1,22 @@
 // Rows 12 to 16, each a test on values.
 #![tactic(auto)]
 
-ghost use Rattle.std.specs.Prelude.{◌≡◌, true, cond, not, ◌||◌, List, ℕ, ◌*◌, ◌<◌, ◌≤◌, ◌^◌, length, get_or};
+ghost use Rattle.std.specs.Prelude.{◌≡◌, true, not, ◌||◌, List, ℕ, ◌*◌, ◌<◌, ◌≤◌, ◌^◌, length, get_or};
 ghost use Rattle.sets.specs.Set.{◌∩◌, has, set_of, is_empty};
 ghost use Rattle.density.specs.Network.{Network};
 ghost use Rattle.density.specs.Plan.{union, group_size, group_litres};
 ghost use Rattle.density.specs.Rows.{first_row, groups_meet, share_broken, groups_rise};
-ghost use Rattle.tables.specs.Verdict.{verdict};
+ghost use Rattle.records.specs.Refusals.{refusal_of};
 ghost use Rattle.tables.specs.Tables.{Holds, Uneven, form_rows, Entry, Small};
 
 use density::Site;
-use records::scan;
-use tables::Verdict;
+use records::Refusal;
 
 // Is the group empty, or does it meet those before it, whose depots are seen?
 fn meets(group: u64, seen: u64) -> bool
     ensures { result ≡ (is_empty (has group) 64 || not (is_empty (has group ∩ has seen) 64)) }
 {
-    if sets::is_empty(group) {
-        return true;
-    }
-    !sets::are_disjoint(group, seen)
+    sets::is_empty(group) || !sets::are_disjoint(group, seen)
 }
 
 // Row 12.
@@ -28,14 +24,11 @@ fn groups_meet(groups: &[u64]) -> bool
     ensures { result ≡ groups_meet groups.now }
 {
     let mut seen: u64 = 0;
-    let mut k: usize = 0;
-    while k < groups.len() {
-        let g = groups[k];
-        if meets(g, seen) {
+    for group in groups {
+        if meets(*group, seen) {
             return true;
         }
-        seen = sets::union(seen, g);
-        k += 1;
+        seen = sets::union(seen, *group);
     }
     false
 }
@@ -45,19 +38,10 @@ pub fn union(groups: &[u64]) -> u64
     ensures { result ≡ set_of (union groups.now) 64 }
 {
     let mut seen: u64 = 0;
-    let mut k: usize = 0;
-    while k < groups.len() {
-        seen = sets::union(seen, groups[k]);
-        k += 1;
+    for group in groups {
+        seen = sets::union(seen, *group);
     }
     seen
-}
-
-// x where the test holds, otherwise y.
-fn pick(test: bool, x: u64, y: u64) -> u64
-    ensures { result ≡ cond test x y }
-{
-    if test { x } else { y }
 }
 
 // Does a site's share break a rule? The groups of its depots have the places a and b, all is w × q. The share is all of it where the second depot's group is earlier or both depots are one,
@@ -65,36 +49,25 @@ fn pick(test: bool, x: u64, y: u64) -> u64
 pub fn is_broken(s: Site, a: u8, b: u8, all: u64, share: u64) -> bool
     ensures { (N : Network) (gs ss : List ℕ) (i : ℕ) → Entry N gs ss i s a b all share → result ≡ share_broken N gs ss i }
 {
-    let is_all = scan::either(b < a, s.first == s.second);
-    let least = pick(is_all, all, 0);
-    let most = pick(a < b, 0, all);
-    scan::either(share < least, most < share)
+    let least = if b < a || s.first == s.second { all } else { 0 };
+    let most = if a < b { 0 } else { all };
+    share < least || most < share
 }
 
-// What a depot's scaled load is to be: W of its group, for each of its crews.
-fn level(crews: u64, w: u64) -> u64
-    requires { (crews ≤ 9) × (w ≤ 512 * 2 ^ 32) }
-    ensures { result ≡ crews * w }
-{
-    crews * w
-}
-
-// Row 15: `all` are the listed depots, `sums` the scaled loads.
+// Row 15: `all` are the listed depots, `sums` the scaled loads. A depot's is to be W of its group, for each of its crews.
 pub fn loads_uneven(all: u64, places: &[u8], litres: &[u64], crews: &[u64], sums: &[u64]) -> bool
     requires places_len { (length places.now ≡ 64) × (length litres.now ≡ 64) × (length crews.now ≡ 64) × (length sums.now ≡ 64) }
     requires by_index { (d : ℕ) → d < 64 → has all d ≡ true → get_or places.now d 0 < 64 }
     requires by_index_2 { ((k : ℕ) → k < 64 → get_or litres.now k 0 ≤ 512 * 2 ^ 32) × ((d : ℕ) → d < 64 → get_or crews.now d 0 ≤ 9) }
     ensures { Uneven all places.now litres.now crews.now sums.now result }
 {
-    let mut d: u8 = 0;
-    while d < 64 {
-        if sets::contains(all, d) {
-            let w = litres[places[d as usize] as usize];
-            if sums[d as usize] != level(crews[d as usize], w) {
+    for (d, sum) in sums.iter().enumerate() {
+        if sets::contains(all, d as u8) {
+            let w = litres[places[d] as usize];
+            if *sum != crews[d] * w {
                 return true;
             }
         }
-        d += 1;
     }
     false
 }
@@ -104,28 +77,26 @@ pub fn groups_rise(n: usize, litres: &[u64], sizes: &[u64]) -> bool
     requires { Small litres.now sizes.now n }
     ensures { (N : Network) (gs : List ℕ) → length gs ≡ n → Holds litres.now (group_litres N gs) n → Holds sizes.now (group_size N gs) n → result ≡ groups_rise N gs }
 {
-    let mut k: usize = 0;
-    while k + 1 < n {
-        if litres[k] * sizes[k + 1] <= litres[k + 1] * sizes[k] {
+    for k in 1..n {
+        if litres[k - 1] * sizes[k] <= litres[k] * sizes[k - 1] {
             return true;
         }
-        k += 1;
     }
     false
 }
 
 // Rows 12 to 14, of what the pass over the sites found.
-pub fn form_of(groups: &[u64], listed: u64, broken: bool) -> Verdict
-    ensures { result ≡ verdict (first_row (form_rows groups.now listed broken)) }
+pub fn form_of(groups: &[u64], listed: u64, broken: bool) -> Result<(), Refusal>
+    ensures { refusal_of result ≡ first_row (form_rows groups.now listed broken) }
 {
     if groups_meet(groups) {
-        return Verdict::Refused(12);
+        return Err(Refusal::GroupsMeet);
     }
     if union(groups) != listed {
-        return Verdict::Refused(13);
+        return Err(Refusal::GroupsUnlisted);
     }
     if broken {
-        return Verdict::Refused(14);
+        return Err(Refusal::ShareBroken);
     }
-    Verdict::Passes
+    Ok(())
 }

@@ -4,7 +4,7 @@
 ghost use Rattle.std.specs.Prelude.{◌≡◌, ◌≤◌, ◌+◌, ◌*◌, length};
 ghost use Rattle.scanner.specs.Scan.{record_at, RecordsRead, AllRead};
 
-use records::{number, scan};
+use records::number;
 
 // A reader of records: the bytes, and the position of the next record.
 #[derive(Clone, Copy)]
@@ -14,6 +14,7 @@ pub struct Reader<'a> {
 }
 
 // What is known once a record has been read: whether its mark, or one before it, is wrong; its body; and the position behind it.
+// Kept: `wrong`, here and in `End`, is what a test found, beside values that are always there.
 #[derive(Clone, Copy)]
 pub struct Record {
     pub wrong: bool,
@@ -37,7 +38,7 @@ pub fn record_at(s: &[u8], at: usize, w: usize, mark: u64, wrong: bool) -> Recor
     let body = number::field(s, at + 2, w);
     let size = 2 + w;
     Record {
-        wrong: scan::either(wrong, found != mark),
+        wrong: wrong || found != mark,
         body,
         next: at + size,
     }
@@ -57,17 +58,14 @@ pub fn read_records<'a>(mut r: Reader<'a>, w: usize, mark: u64, wrong: bool, out
     ensures { RecordsRead r.entry.src.now r.entry.at w mark wrong (length out.old) result out.new }
 {
     let mut end = End { wrong, at: r.at };
-    let n = out.len();
-    let mut i = 0;
-    while i < n {
+    for place in out.iter_mut() {
         let x = next(r, w, mark, end.wrong);
-        out[i] = x.body;
+        *place = x.body;
         r.at = x.next;
         end = End {
             wrong: x.wrong,
             at: x.next,
         };
-        i += 1;
     }
     end
 }

@@ -1,16 +1,16 @@
--- Laws of bytes as text, as the loops of `decode` and `encode` meet them.
+-- Laws of bytes as text, as `digits` and the loops of `decode` and `encode` meet them.
 -- Assumes nothing.
 use Prim.Native.Nat.{ℕ, zero, suc, ◌+◌, ◌*◌, ◌/◌, ◌%◌, ◌<◌}
-use mathlib.Core.Path.{◌≡◌, refl}
-use mathlib.Core.Bool.{Bool, true, false}
+use mathlib.Core.Path.{◌≡◌, refl, ap}
+use mathlib.Core.Bool.{Bool, false, not, ◌&&◌}
 use mathlib.Core.List.{List, [], ◌∷◌}
 use lib.Dec.{eqb}
+use Rattle.std.specs.List.{list_all}
 use native.Mathlib.Omega.{arith}
 use native.Mathlib.Numerals.{add-one}
-use lib.ListN.{length, get_or, set, take, drop, length-set}
-use lib.Seq.{take-suc, take-suc-set, drop-cons, drop-length}
-use borrow.Author.Tests.{eq-eqb, ne_eqb, lt-ltb}
-use Rattle.script.specs.Hex.{digit_of, glyph_of, digits_of, byte_of, bytes_of, all_digits, is_none, is_bytes}
+use lib.ListN.{length, get_or, set, take, length-set}
+use lib.Seq.{take-suc, take-suc-set}
+use Rattle.script.specs.Hex.{digit_of, glyph_of, digits_of, byte_of, bytes_of, all_digits, is_none}
 
 -- one more element at the front is that of xs
 pub front-next : (out xs : List ℕ) (k v : ℕ) → k < length out → k < length xs → v ≡ get_or xs k 0 → take k out ≡ take k xs → take (k + 1) (set out k v) ≡ take (k + 1) xs
@@ -59,19 +59,11 @@ bytes-at (high ∷ low ∷ text) (suc i) h =
     let f : 2 * suc i + 1 ≡ suc (suc (2 * i + 1)) = omega arith in
     (omega (arith, r.0), rw (f, e) r.1)
 
--- d is the digit at i
-module _ (text : List ℕ) (i d : ℕ) (h : i < length text) (e : d ≡ digit_of (get_or text i 0)) where
-  pub all-next : (d ≡ 16 → ⊥) → all_digits (drop i text) ≡ all_digits (drop (i + 1) text)
-  unfolding all_digits
-  all-next a = rw (add-one, drop-cons text i 0) (simp (← e, ne_eqb _ _ a))
-
-  pub all-broken : d ≡ 16 → all_digits (drop i text) ≡ false
-  unfolding all_digits
-  all-broken a = rw (drop-cons text i 0) (simp (← e, eq-eqb _ _ a))
-
-pub all_end : (text : List ℕ) (i : ℕ) → i ≡ length text → all_digits (drop i text) ≡ true
+-- all bytes are digits, by the library's word
+pub all_is : (text : List ℕ) → all_digits text ≡ list_all (λ b. not (eqb (digit_of b) 16)) text
 unfolding all_digits
-all_end text i h = rw (h, drop-length)
+all_is [] = refl
+all_is (b ∷ text) = ap (λ (r : Bool). not (eqb (digit_of b) 16) && r) (all_is text)
 
 pub none_other : (text : List ℕ) → (length text ≡ 1 → ⊥) → is_none text ≡ false
 unfolding is_none
@@ -84,17 +76,3 @@ unfolding is_none
 none-one [] h = absurd (omega arith)
 none-one (b ∷ []) h = refl
 none-one (b ∷ c ∷ text) h = absurd (omega arith)
-
--- n tells whether the word is `-`
-module _ (text : List ℕ) (n : Bool) (e : n ≡ is_none text) where
-  pub bytes-none : n ≡ true → true ≡ is_bytes text
-  bytes-none a = simp (← e, a)
-
-  pub bytes-empty : n ≡ false → length text ≡ 0 → false ≡ is_bytes text
-  bytes-empty a b = simp (← e, a, b)
-
-  pub bytes-odd : n ≡ false → (length text ≡ 0 → ⊥) → (length text % 2 ≡ 0 → ⊥) → false ≡ is_bytes text
-  bytes-odd a b c = simp (← e, a, lt-ltb 0 (length text) (omega arith), ne_eqb (length text % 2) 0 c)
-
-  pub bytes-digits : n ≡ false → (length text ≡ 0 → ⊥) → length text % 2 ≡ 0 → all_digits text ≡ is_bytes text
-  bytes-digits a b c = simp (← e, a, lt-ltb 0 (length text) (omega arith), eq-eqb (length text % 2) 0 c)

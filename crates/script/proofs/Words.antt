@@ -1,75 +1,73 @@
--- Laws of words, as the loops of `spaces` and `letters` meet them, one byte at a time; the words of a text, the first at a time.
+-- Laws of words, by the first byte that is a space or none; the words of a text, the first at a time.
 -- Assumes nothing.
-use Prim.Native.Nat.{ℕ, ◌+◌, ◌-◌, ◌<◌}
+use Prim.Native.Nat.{ℕ, suc, ◌+◌, ◌-◌, ◌<◌}
 use mathlib.Core.Path.{◌≡◌, refl, sym, ap, ◌∙◌}
-use mathlib.Core.Bool.{Bool, true, false, ◌&&◌}
-use mathlib.Core.List.{List, [], ◌∷◌, ◌++◌, append_assoc, append-nil}
+use mathlib.Core.Bool.{Bool, true, false, ◌&&◌, not}
+use mathlib.Core.List.{List, [], ◌∷◌}
 use lib.Dec.{eqb}
 use native.Mathlib.Omega.{arith}
-use native.Mathlib.Numerals.{add-one}
-use lib.ListN.{length, get_or, take, drop, length-drop}
-use lib.Seq.{drop-cons, drop-length, take-suc, take_all}
-use borrow.Author.Tests.{eq-eqb, ne_eqb, eqb-true}
+use lib.ListN.{length, take, drop, length-drop}
+use lib.Seq.{take_all}
+use Rattle.std.specs.List.{prefix_len}
+use borrow.Author.Tests.{eq-eqb, eqb-true}
 use Rattle.script.specs.Words.{trimmed_of, letters_of, behind_of, word_of, rest_of, words_from, words_of, same_of}
 
--- the byte at i
-module _ (s : List ℕ) (i : ℕ) (h : i < length s) where
-  pub trimmed-space : get_or s i 0 ≡ 32 → trimmed_of (drop i s) ≡ trimmed_of (drop (i + 1) s)
-  unfolding trimmed_of
-  trimmed-space e = rw (add-one, drop-cons s i 0) (simp (eq-eqb _ _ e))
+-- how many spaces stand at the front, and how many bytes before the first space
+abbrev pub spaces_in : List ℕ → ℕ
+spaces_in s = prefix_len (λ b. eqb b 32) s
 
-  pub trimmed-here : (get_or s i 0 ≡ 32 → ⊥) → trimmed_of (drop i s) ≡ drop i s
-  unfolding trimmed_of
-  trimmed-here e = rw (drop-cons s i 0) (simp (ne_eqb _ _ e))
+abbrev pub letters_in : List ℕ → ℕ
+letters_in s = prefix_len (λ b. not (eqb b 32)) s
 
-  pub letters-end : get_or s i 0 ≡ 32 → letters_of (drop i s) ≡ []
-  unfolding letters_of
-  letters-end e = rw (drop-cons s i 0) (simp (eq-eqb _ _ e))
+one-add : (n : ℕ) → 1 + n ≡ suc n
+one-add n = omega arith
 
-  pub letters-next : (get_or s i 0 ≡ 32 → ⊥) → take i s ++ letters_of (drop i s) ≡ take (i + 1) s ++ letters_of (drop (i + 1) s)
-  unfolding letters_of
-  letters-next e = rw (add-one, drop-cons s i 0, take-suc s i 0) (simp (ne_eqb _ _ e, append_assoc))
+-- the spaces at the front are passed over
+trimmed-step : (t : Bool) (b : ℕ) (s : List ℕ) → eqb b 32 ≡ t → drop (spaces_in s) s ≡ trimmed_of s → drop (spaces_in (b ∷ s)) (b ∷ s) ≡ trimmed_of (b ∷ s)
+unfolding trimmed_of
+trimmed-step true b s e h = simp (e, one-add) h
+trimmed-step false b s e h = simp e
 
-  pub behind-here : get_or s i 0 ≡ 32 → behind_of (drop i s) ≡ drop i s
-  unfolding behind_of
-  behind-here e = rw (drop-cons s i 0) (simp (eq-eqb _ _ e))
+pub trimmed_at : (s : List ℕ) → drop (spaces_in s) s ≡ trimmed_of s
+unfolding trimmed_of
+trimmed_at [] = refl
+trimmed_at (b ∷ s) = trimmed-step (eqb b 32) b s refl (trimmed_at s)
 
-  pub behind-next : (get_or s i 0 ≡ 32 → ⊥) → behind_of (drop i s) ≡ behind_of (drop (i + 1) s)
-  unfolding behind_of
-  behind-next e = rw (add-one, drop-cons s i 0) (simp (ne_eqb _ _ e))
+-- the bytes before the first space, and those from it on
+letters-step : (t : Bool) (b : ℕ) (s : List ℕ) → eqb b 32 ≡ t → take (letters_in s) s ≡ letters_of s → take (letters_in (b ∷ s)) (b ∷ s) ≡ letters_of (b ∷ s)
+unfolding letters_of
+letters-step true b s e h = simp e
+letters-step false b s e h = simp (e, one-add) (ap (λ (l : List ℕ). b ∷ l) h)
 
--- the end
-module _ (s : List ℕ) (i : ℕ) (h : i ≡ length s) where
-  pub trimmed-all : trimmed_of (drop i s) ≡ drop i s
-  unfolding trimmed_of
-  trimmed-all = rw (h, drop-length)
+pub letters_at : (s : List ℕ) → take (letters_in s) s ≡ letters_of s
+unfolding letters_of
+letters_at [] = refl
+letters_at (b ∷ s) = letters-step (eqb b 32) b s refl (letters_at s)
 
-  pub letters-all : letters_of (drop i s) ≡ []
-  unfolding letters_of
-  letters-all = rw (h, drop-length)
+behind_at_step : (t : Bool) (b : ℕ) (s : List ℕ) → eqb b 32 ≡ t → drop (letters_in s) s ≡ behind_of s → drop (letters_in (b ∷ s)) (b ∷ s) ≡ behind_of (b ∷ s)
+unfolding behind_of
+behind_at_step true b s e h = simp e
+behind_at_step false b s e h = simp (e, one-add) h
 
-  pub behind-all : behind_of (drop i s) ≡ drop i s
-  unfolding behind_of
-  behind-all = rw (h, drop-length)
+pub behind_at : (s : List ℕ) → drop (letters_in s) s ≡ behind_of s
+unfolding behind_of
+behind_at [] = refl
+behind_at (b ∷ s) = behind_at_step (eqb b 32) b s refl (behind_at s)
 
 -- the part from n to the end
 pub to_end : (n : ℕ) (s : List ℕ) → take (length s - n) (drop n s) ≡ drop n s
 to_end n s = take_all (length s - n) (drop n s) (rw length-drop (omega arith))
 
--- a text that nothing follows
-pub upto : {w t u : List ℕ} → w ≡ t ++ u → u ≡ [] → t ≡ w
-upto {w} {t} {u} e h = sym (e ∙ (rw h (append-nil t)))
-
 -- the words of a text without its spaces at the front
-trimmed-step : (t : Bool) (b : ℕ) (s : List ℕ) → eqb b 32 ≡ t → words_of (trimmed_of s) ≡ words_of s → words_of (trimmed_of (b ∷ s)) ≡ words_of (b ∷ s)
+trimmed-words-step : (t : Bool) (b : ℕ) (s : List ℕ) → eqb b 32 ≡ t → words_of (trimmed_of s) ≡ words_of s → words_of (trimmed_of (b ∷ s)) ≡ words_of (b ∷ s)
 unfolding trimmed_of words_from
-trimmed-step true b s e h = simp e h
-trimmed-step false b s e h = simp e
+trimmed-words-step true b s e h = simp e h
+trimmed-words-step false b s e h = simp e
 
 words-trimmed : (s : List ℕ) → words_of (trimmed_of s) ≡ words_of s
 unfolding trimmed_of words_from
 words-trimmed [] = refl
-words-trimmed (b ∷ s) = trimmed-step (eqb b 32) b s refl (words-trimmed s)
+words-trimmed (b ∷ s) = trimmed-words-step (eqb b 32) b s refl (words-trimmed s)
 
 -- within a word, the words to come are those from the next space on
 behind-step : (t : Bool) (b : ℕ) (s : List ℕ) → eqb b 32 ≡ t → words_from false s ≡ words_of (behind_of s) → words_from false (b ∷ s) ≡ words_of (behind_of (b ∷ s))

@@ -17,9 +17,12 @@ use Rattle.records.specs.Format.{edition1, read_list}
 use Rattle.records.specs.Outcome.{refused, passed}
 use Rattle.records.specs.Answer.{filled, plan_array}
 use Rattle.records.proofs.RoundTrip.{list_read_lem}
-use Rattle.tables.specs.declared.Verdict.{Verdict}
-use Rattle.tables.specs.declared.Verdict.TheVariants as verdict
-use Rattle.tables.specs.Verdict.{verdict}
+use Rattle.std.specs.declared.result.Result.{Result}
+use Rattle.std.specs.declared.result.Result.TheVariants.{Ok, Err}
+use mathlib.Core.Option.{Option, none, some}
+use Rattle.records.specs.declared.refusal.Refusal.{Refusal}
+use Rattle.records.specs.declared.refusal.Refusal.TheVariants.{CorruptStore}
+use Rattle.records.specs.Refusals.{number}
 use Rattle.judge.specs.Check.{judged_for}
 use Rattle.table.specs.Table.{overlay}
 use Rattle.table.proofs.Overlay.{overlay-none, overlay-set}
@@ -72,14 +75,14 @@ module _ (store : Store) (sites : List Site) (places : ℕ) where
   Zero b = (e : Edition) → AtTable e (λ s. b ≡ corrupt s)
 
   -- what the rows of a change and of another site find
-  abbrev pub ChangeRow : ℕ → ℕ → Verdict → Type 0
-  ChangeRow i w v = (b : Model) (c : Call) → length b.list.sites ≡ store.count → v ≡ verdict (first_row (rows_of b c (Change i w)))
+  abbrev pub ChangeRow : ℕ → ℕ → Option ℕ → Type 0
+  ChangeRow i w v = (b : Model) (c : Call) → length b.list.sites ≡ store.count → v ≡ first_row (rows_of b c (Change i w))
 
   abbrev another : Site → Request
   another x = Add x.first x.second x.litres
 
-  abbrev pub AddRow : Site → Verdict → Type 0
-  AddRow x v = (b : Model) (c : Call) → length b.list.sites ≡ store.count → b.places ≡ places → b.list.roll ≡ roll_in store.roll → v ≡ verdict (first_row (rows_of b c (another x)))
+  abbrev pub AddRow : Site → Option ℕ → Type 0
+  AddRow x v = (b : Model) (c : Call) → length b.list.sites ≡ store.count → b.places ≡ places → b.list.roll ≡ roll_in store.roll → v ≡ first_row (rows_of b c (another x))
 
   -- where row 0 finds nothing: the sites held are among the values, and the list is in range
   module _ (wide : length sites ≡ 512) (zero : Zero false) where
@@ -102,7 +105,7 @@ module _ (store : Store) (sites : List Site) (places : ℕ) where
         (good-range (list_of s) (intact→ s (sym (zero edition1 table k h))).good)
 
     -- what is granted: a change of a site that is held, another site where there is a place for it
-    module _ (i w : ℕ) (v : ChangeRow i w verdict.Passes) where
+    module _ (i w : ℕ) (v : ChangeRow i w none) where
       change-step : (c : Call) → c.request ≡ Change i w → (e : Edition)
           → AtTable e (λ s. (step s c ≡ next s (bare store.count store.roll) (set s.table i (with_litres (site_at (list_of s) i) w)) (same c done)) × (i < store.count))
       change-step c q e table k h =
@@ -116,7 +119,7 @@ module _ (store : Store) (sites : List Site) (places : ℕ) where
           let l = (change-step (record { request = Change i w; input = []; buffer = [] }) refl edition1 table k h).1 in
           (l, omega (arith, l, few))
 
-    module _ (x : Site) (v : AddRow x verdict.Passes) where
+    module _ (x : Site) (v : AddRow x none) where
       add_step : (c : Call) → c.request ≡ another x → (e : Edition)
           → AtTable e (λ s. (step s c ≡ next s (bare (store.count + 1) store.roll) (set s.table store.count x) (same c done)) × (store.count < 512) × (store.count < length s.table))
       add_step c q e table k h =
@@ -137,31 +140,31 @@ module _ (store : Store) (sites : List Site) (places : ℕ) where
     abbrev Goes : Request → List ℕ → Type 0
     Goes request last = Served e store sites places request input buffer r last
 
-    abbrev Answered : Answer → Type 0
+    abbrev Answered : Result Answer Refusal → Type 0
     Answered a = r ≡ record { answer = a; store = store; sites = sites; n = 0 }
 
     -- the table stays where no site goes to it
-    kept : (a : Answer) → Answered a → (last : List ℕ) → AtTable e (λ s. decided s r last ≡ stays s (record { answer = told a; buffer = last }))
+    kept : (a : Result Answer Refusal) → Answered a → (last : List ℕ) → AtTable e (λ s. decided s r last ≡ stays s (record { answer = told a; buffer = last }))
     kept a q last table k h = rw (q, overlay-none sites table)
 
-    none-go : (a : Answer) → Answered a → (m : ℕ) → r.n ≤ m
+    none-go : (a : Result Answer Refusal) → Answered a → (m : ℕ) → r.n ≤ m
     none-go a q m = let z : r.n ≡ 0 = ap (λ (x : Decision). x.n) q in omega arith
 
     -- a refusal leaves the store, the table and the buffer
-    refuses : (request : Request) (n : ℕ) → AtTable e (λ s. step s (call request) ≡ stays s (same (call request) (row n))) → Answered (of.Refused n) → Goes request buffer
-    refuses request n f q =
+    refuses : (request : Request) (x : Refusal) → AtTable e (λ s. step s (call request) ≡ stays s (same (call request) (row (number x)))) → Answered (Err x) → Goes request buffer
+    refuses request x f q =
         record {
-          steps = λ table k h. kept (of.Refused n) q buffer table k h ∙ sym (f table k h);
-          few = none-go (of.Refused n) q 512;
-          room = none-go (of.Refused n) q places;
+          steps = λ table k h. kept (Err x) q buffer table k h ∙ sym (f table k h);
+          few = none-go (Err x) q 512;
+          room = none-go (Err x) q places;
         }
 
-    pub zero-served : (request : Request) → tries_zero request ≡ true → Zero true → Answered (of.Refused 0) → Goes request buffer
-    zero-served request t z = refuses request 0 (λ table k h. settled.zero-step (on e store table) (call request) t (sym (z e table k h)))
+    pub zero-served : (request : Request) → tries_zero request ≡ true → Zero true → Answered (Err CorruptStore) → Goes request buffer
+    zero-served request t z = refuses request CorruptStore (λ table k h. settled.zero-step (on e store table) (call request) t (sym (z e table k h)))
 
     -- ---- a call that only reads
 
-    pub asked : (request : Request) (a : Answer) (last : List ℕ) → ReadsOnly request
+    pub asked : (request : Request) (a : Result Answer Refusal) (last : List ℕ) → ReadsOnly request
         → AtTable e (λ s. record { answer = told a; buffer = last } ≡ (step s (call request)).reply) → Answered a → Goes request last
     asked request a last u f q =
         record {
@@ -176,13 +179,13 @@ module _ (store : Store) (sites : List Site) (places : ℕ) where
 
     -- ---- load
 
-    pub load-refused : (n : ℕ) → read_list e places input ≡ refused n → Answered (of.Refused n) → Goes Load buffer
-    load-refused n o =
-        refuses Load n
-        (λ table k h. settled.load-refused (on e store table) (call Load) n refl (subst (λ (m : ℕ). read_list e m input ≡ refused n) k o))
+    pub load-refused : (x : Refusal) → read_list e places input ≡ refused (number x) → Answered (Err x) → Goes Load buffer
+    load-refused x o =
+        refuses Load x
+        (λ table k h. settled.load-refused (on e store table) (call Load) (number x) refl (subst (λ (m : ℕ). read_list e m input ≡ refused (number x)) k o))
 
     pub load_read : (l : Listing) → read_list e places input ≡ passed l
-        → r ≡ record { answer = of.Done; store = bare (length l.sites) (roll_array l.roll); sites = filled 512 l.sites no_site; n = length l.sites } → Goes Load buffer
+        → r ≡ record { answer = Ok of.Done; store = bare (length l.sites) (roll_array l.roll); sites = filled 512 l.sites no_site; n = length l.sites } → Goes Load buffer
     unfolding overlay
     load_read l o q =
         let d = list_read_lem e places input o in
@@ -197,12 +200,12 @@ module _ (store : Store) (sites : List Site) (places : ℕ) where
     module _ (wide : length sites ≡ 512) (zero : Zero false) where
       -- ---- propose
 
-      pub propose-refused : (n : ℕ) → judged_for e (listing list) input ≡ refused n → Answered (of.Refused n) → Goes Propose buffer
-      propose-refused n j =
-          refuses Propose n
+      pub propose-refused : (x : Refusal) → judged_for e (listing list) input ≡ refused (number x) → Answered (Err x) → Goes Propose buffer
+      propose-refused x j =
+          refuses Propose x
           (λ table k h.
-          steps.proposal-refused (on e store table) (call Propose) (sym (zero e table k h)) n refl
-          (subst (λ (l : Listing). judged_for e l input ≡ refused n) (same-list wide zero e table k h) j))
+          steps.proposal-refused (on e store table) (call Propose) (sym (zero e table k h)) (number x) refl
+          (subst (λ (l : Listing). judged_for e l input ≡ refused (number x)) (same-list wide zero e table k h) j))
 
       pub propose-passed : (p : Plan) → judged_for e (listing list) input ≡ passed p → r ≡ takes store (plan_array p) sites → Goes Propose buffer
       propose-passed p j q =
@@ -218,16 +221,16 @@ module _ (store : Store) (sites : List Site) (places : ℕ) where
       -- ---- change
 
       module _ (i w : ℕ) where
-        pub change-refused : (n : ℕ) → ChangeRow i w (verdict.Refused n) → Answered (of.Refused n) → Goes (Change i w) buffer
-        change-refused n v =
-            refuses (Change i w) n
+        pub change-refused : (x : Refusal) → ChangeRow i w (some (number x)) → Answered (Err x) → Goes (Change i w) buffer
+        change-refused x v =
+            refuses (Change i w) x
             (λ table k h.
             let s = on e store table in
             let z = sym (zero e table k h) in
             let c = call (Change i w) in
-            steps.change-refused s c z i w n refl (sym (v (model_of s) c (steps.held-count s z).2)))
+            steps.change-refused s c z i w (number x) refl (sym (v (model_of s) c (steps.held-count s z).2)))
 
-        pub change-made : ChangeRow i w verdict.Passes → r ≡ record { answer = of.Done; store = bare store.count store.roll; sites = set sites i (with_litres (get_or sites i no_site) w); n = store.count }
+        pub change-made : ChangeRow i w none → r ≡ record { answer = Ok of.Done; store = bare store.count store.roll; sites = set sites i (with_litres (get_or sites i no_site) w); n = store.count }
             → Goes (Change i w) buffer
         change-made v q =
             let n : r.n ≡ store.count = ap (λ (x : Decision). x.n) q in
@@ -246,16 +249,16 @@ module _ (store : Store) (sites : List Site) (places : ℕ) where
       -- ---- add
 
       module _ (x : Site) where
-        pub add-refused : (n : ℕ) → AddRow x (verdict.Refused n) → Answered (of.Refused n) → Goes (another x) buffer
-        add-refused n v =
-            refuses (another x) n
+        pub add-refused : (y : Refusal) → AddRow x (some (number y)) → Answered (Err y) → Goes (another x) buffer
+        add-refused y v =
+            refuses (another x) y
             (λ table k h.
             let s = on e store table in
             let z = sym (zero e table k h) in
             let c = call (another x) in
-            steps.add-refused s c z x.first x.second x.litres n refl (sym (v (model_of s) c (steps.held-count s z).2 (sym k) refl)))
+            steps.add-refused s c z x.first x.second x.litres (number y) refl (sym (v (model_of s) c (steps.held-count s z).2 (sym k) refl)))
 
-        pub add-made : AddRow x verdict.Passes → r ≡ record { answer = of.Done; store = bare (store.count + 1) store.roll; sites = set sites store.count x; n = store.count + 1 }
+        pub add-made : AddRow x none → r ≡ record { answer = Ok of.Done; store = bare (store.count + 1) store.roll; sites = set sites store.count x; n = store.count + 1 }
             → Goes (another x) buffer
         add-made v q =
             let n : r.n ≡ store.count + 1 = ap (λ (y : Decision). y.n) q in

@@ -1,9 +1,11 @@
 -- Calls of a typed entry over a lent table, one after another, for any edition: what a call is passed, what it gives back, and its contract as a step.
 use Rattle.std.specs.Prelude.{◌≡◌, List, [], ◌∷◌, ℕ, ◌^◌, take, drop}
 use Rattle.std.proofs.Math.Option.{none as no-roll}
+use Rattle.std.specs.declared.result.Result.{Result}
 use Rattle.density.specs.declared.Site.{Site}
 use Rattle.records.specs.declared.Edition.{Edition}
 use Rattle.records.specs.Bytes.{Bytes}
+use Rattle.records.specs.declared.refusal.Refusal.{Refusal}
 use Rattle.records.specs.Values.{roll_array}
 use Rattle.records.specs.Write.{Marked}
 use Rattle.held_state.specs.declared.Store.{Store}
@@ -54,41 +56,41 @@ abbrev pub event : (E : Entry) → Passed E → Event
 event E p = called (call E p)
 
 -- what it gives back, and the table and the buffer as it left them
-pub record Result (E : Entry) : Type 0 where
-  pub answer : Answer
+pub record Returned (E : Entry) : Type 0 where
+  pub answer : Result Answer Refusal
   pub store : E.StoreType
   pub table : List E.SiteType
   pub buffer : List ℕ
 
-abbrev pub replied : (E : Entry) → Result E → Reply
+abbrev pub replied : (E : Entry) → Returned E → Reply
 replied E r = record { answer = told r.answer; buffer = r.buffer }
 
 -- ---- a call over a lent table
 
 -- its contract
-abbrev pub Called : (E : Entry) → E.StoreType → List E.SiteType → Passed E → Result E → Type 0
+abbrev pub Called : (E : Entry) → E.StoreType → List E.SiteType → Passed E → Returned E → Type 0
 Called E s table p r = Typed E.edition (E.request p.request) p.input × Steps (view E s table) (call E p) (replied E r) (view E r.store r.table)
 
 -- "Each call gets the desk and the table as the one before left them, and nobody else writes either meanwhile."
-pub data Calls (E : Entry) : E.StoreType → List E.SiteType → List (Passed E) → List (Result E) → E.StoreType → List E.SiteType → Type 0 where
+pub data Calls (E : Entry) : E.StoreType → List E.SiteType → List (Passed E) → List (Returned E) → E.StoreType → List E.SiteType → Type 0 where
   none : {s : E.StoreType} {t : List E.SiteType} → Calls E s t [] [] s t
-  next : {s s' : E.StoreType} {t t' : List E.SiteType} {p : Passed E} {ps : List (Passed E)} {r : Result E} {rs : List (Result E)} → Called E s t p r
+  next : {s s' : E.StoreType} {t t' : List E.SiteType} {p : Passed E} {ps : List (Passed E)} {r : Returned E} {rs : List (Returned E)} → Called E s t p r
       → Calls E r.store r.table ps rs s' t' → Calls E s t (p ∷ ps) (r ∷ rs) s' t'
 
 -- ---- a call over the first k places of a table by value: the places behind keep their content
 
 -- what it gives back as a call over these places does
-abbrev pub first : (E : Entry) → ℕ → Result E → Result E
+abbrev pub first : (E : Entry) → ℕ → Returned E → Returned E
 first E k r = record { answer = r.answer; store = r.store; table = take k r.table; buffer = r.buffer }
 
 -- its contract
-abbrev pub CalledOn : (E : Entry) → ℕ → E.StoreType → List E.SiteType → Passed E → Result E → Type 0
+abbrev pub CalledOn : (E : Entry) → ℕ → E.StoreType → List E.SiteType → Passed E → Returned E → Type 0
 CalledOn E k s table p r =
     Typed E.edition (E.request p.request) p.input
     × Steps (view E s (take k table)) (call E p) (replied E r) (view E r.store (take k r.table))
     × (drop k r.table ≡ drop k table)
 
-pub data CallsOn (E : Entry) (k : ℕ) : E.StoreType → List E.SiteType → List (Passed E) → List (Result E) → E.StoreType → List E.SiteType → Type 0 where
+pub data CallsOn (E : Entry) (k : ℕ) : E.StoreType → List E.SiteType → List (Passed E) → List (Returned E) → E.StoreType → List E.SiteType → Type 0 where
   none-on : {s : E.StoreType} {t : List E.SiteType} → CallsOn E k s t [] [] s t
-  next-on : {s s' : E.StoreType} {t t' : List E.SiteType} {p : Passed E} {ps : List (Passed E)} {r : Result E} {rs : List (Result E)} → CalledOn E k s t p r
+  next-on : {s s' : E.StoreType} {t t' : List E.SiteType} {p : Passed E} {ps : List (Passed E)} {r : Returned E} {rs : List (Returned E)} → CalledOn E k s t p r
       → CallsOn E k r.store r.table ps rs s' t' → CallsOn E k s t (p ∷ ps) (r ∷ rs) s' t'

@@ -15,30 +15,22 @@ ghost use Rattle.serve.specs.Stored.{one, stored_of};
 
 use density::Site;
 use held_state::{Store, Summary, is_any_bad, is_corrupt};
-use records::{Edition, ListArray, Read};
+use records::{Edition, ListArray, Refusal};
+use std::ops::Range;
 use store::decide::{refuse, with_plan, without_plan};
 use store::{Decision, Request};
 use store_calls::{add_row, answer, change_row};
 use table::capacity;
-use tables::Verdict;
-
-// Places of a table: from one up to another, which is not one of them.
-#[derive(Clone, Copy)]
-pub struct Places {
-    pub from: usize,
-    pub to: usize,
-}
 
 // What a call goes by beside the sites and the plan.
 fn summary(store: Store, sites: [Site; 512], places: usize) -> Summary
     ensures { (result.places ≡ places) × (result.held ≡ store.held) × (result.grouped ≡ store.grouped) × BadKnown (record { count = store.count; sites = sites; roll = store.roll }) result }
 {
-    let count = capacity(store.count);
     Summary {
         places,
         held: store.held,
         grouped: store.grouped,
-        bad: is_any_bad(sites, count),
+        bad: is_any_bad(sites, capacity(store.count)),
     }
 }
 
@@ -46,13 +38,13 @@ fn summary(store: Store, sites: [Site; 512], places: usize) -> Summary
 pub fn row_zero(store: Store, sites: [Site; 512], places: usize) -> bool
     ensures { (e : Edition) (table : List Site) → places ≡ length table → take places sites ≡ take 512 table → result ≡ corrupt (on e store table) }
 {
-    let count = store.count;
+    let list = ListArray {
+        count: store.count,
+        sites,
+        roll: store.roll,
+    };
     let known = summary(store, sites, places);
-    let roll = store.roll;
-    let list = ListArray { count, sites, roll };
-    let groups = store.groups;
-    let shares = store.shares;
-    is_corrupt(list, known, &groups, &shares)
+    is_corrupt(list, known, &store.groups, &store.shares)
 }
 
 // Reads a list, which becomes the one held.
@@ -60,16 +52,9 @@ fn load(e: Edition, store: Store, sites: [Site; 512], places: usize, input: &[u8
     requires { e.litres ≤ 4 }
     ensures { (buffer : List ℕ) → Served e store sites places request.Load input.now buffer result buffer }
 {
-    let read = readers::list::read(e, places, input);
-    let answer = read.answer;
-    match answer {
-        Read::Count(n) => {
-            let list = read.list;
-            let next = list.sites;
-            let roll = list.roll;
-            without_plan(roll, next, n)
-        }
-        Read::Refused(n) => refuse(store, sites, n),
+    match readers::list::read(e, places, input) {
+        Ok(list) => without_plan(list.roll, list.sites, list.count),
+        Err(row) => refuse(store, sites, row),
     }
 }
 
@@ -78,22 +63,14 @@ fn change(store: Store, sites: [Site; 512], places: usize, i: usize, w: u32) -> 
     ensures { (e : Edition) (input buffer : List ℕ) → Served e store sites places (request.Change i w) input buffer result buffer }
 {
     if row_zero(store, sites, places) {
-        return refuse(store, sites, 0);
+        return refuse(store, sites, Refusal::CorruptStore);
     }
-    let count = store.count;
-    let verdict = change_row(count, i, w);
-    if let Verdict::Refused(n) = verdict {
-        return refuse(store, sites, n);
+    if let Err(row) = change_row(store.count, i, w) {
+        return refuse(store, sites, row);
     }
-    let x = sites[i];
     let mut next = sites;
-    next[i] = Site {
-        first: x.first,
-        second: x.second,
-        litres: w,
-    };
-    let roll = store.roll;
-    without_plan(roll, next, count)
+    next[i].litres = w;
+    without_plan(store.roll, next, store.count)
 }
 
 // Adds a site at the end.
@@ -101,17 +78,14 @@ fn add(store: Store, sites: [Site; 512], places: usize, x: Site) -> Decision
     ensures { (e : Edition) (input buffer : List ℕ) → Served e store sites places (request.Add x.first x.second x.litres) input buffer result buffer }
 {
     if row_zero(store, sites, places) {
-        return refuse(store, sites, 0);
+        return refuse(store, sites, Refusal::CorruptStore);
     }
-    let count = store.count;
-    let roll = store.roll;
-    let verdict = add_row(count, places, roll, x);
-    if let Verdict::Refused(n) = verdict {
-        return refuse(store, sites, n);
+    if let Err(row) = add_row(store.count, places, store.roll, x) {
+        return refuse(store, sites, row);
     }
     let mut next = sites;
-    next[count] = x;
-    without_plan(roll, next, count + 1)
+    next[store.count] = x;
+    without_plan(store.roll, next, store.count + 1)
 }
 
 // A plan that passes becomes the one held.
@@ -120,18 +94,17 @@ fn propose(e: Edition, store: Store, sites: [Site; 512], places: usize, input: &
     ensures { (buffer : List ℕ) → Served e store sites places request.Propose input.now buffer result buffer }
 {
     if row_zero(store, sites, places) {
-        return refuse(store, sites, 0);
+        return refuse(store, sites, Refusal::CorruptStore);
     }
-    let count = store.count;
-    let roll = store.roll;
-    let list = ListArray { count, sites, roll };
-    let read = judge::plan_for(e, list, input);
-    let answer = read.answer;
-    if let Read::Refused(n) = answer {
-        return refuse(store, sites, n);
+    let list = ListArray {
+        count: store.count,
+        sites,
+        roll: store.roll,
+    };
+    match judge::plan_for(e, list, input) {
+        Ok(plan) => with_plan(store, plan, sites),
+        Err(row) => refuse(store, sites, row),
     }
-    let plan = read.plan;
-    with_plan(store, plan, sites)
 }
 
 // A call that only reads: the store and the sites stay as they are.
@@ -146,13 +119,21 @@ fn ask(
     requires { Fitting e × ReadsOnly request }
     ensures { (input : List ℕ) → Served e store sites places request input buffer.old result buffer.new }
 {
-    let count = store.count;
+    let list = ListArray {
+        count: store.count,
+        sites,
+        roll: store.roll,
+    };
     let known = summary(store, sites, places);
-    let roll = store.roll;
-    let list = ListArray { count, sites, roll };
-    let groups = store.groups;
-    let shares = store.shares;
-    let answer = answer(e, list, known, &groups, &shares, request, buffer);
+    let answer = answer(
+        e,
+        list,
+        known,
+        &store.groups,
+        &store.shares,
+        request,
+        buffer,
+    );
     Decision {
         answer,
         store,
@@ -178,12 +159,16 @@ pub fn serve(
         Request::Load => load(e, store, sites, places, input),
         Request::Change(i, w) => change(store, sites, places, i, w),
         Request::Add(first, second, litres) => {
-            let x = Site {
-                first,
-                second,
-                litres,
-            };
-            add(store, sites, places, x)
+            add(
+                store,
+                sites,
+                places,
+                Site {
+                    first,
+                    second,
+                    litres,
+                },
+            )
         }
         Request::Propose => propose(e, store, sites, places, input),
         _ => ask(e, store, sites, places, request, buffer),
@@ -191,23 +176,20 @@ pub fn serve(
 }
 
 // The place i alone, if it is one of the first n; else none.
-fn one(i: usize, n: usize) -> Places
+fn one(i: usize, n: usize) -> Range<usize>
     ensures { result ≡ one i n }
 {
-    if i < n {
-        return Places { from: i, to: i + 1 };
-    }
-    Places { from: 0, to: 0 }
+    if i < n { i..i + 1 } else { 0..0 }
 }
 
 // Which of the first n places a call stores, at a store with so many sites: a load all of them, a change and an add one, the others none.
-pub fn stored(request: Request, count: usize, n: usize) -> Places
+pub fn stored(request: Request, count: usize, n: usize) -> Range<usize>
     ensures { result ≡ stored_of request count n }
 {
     match request {
-        Request::Load => Places { from: 0, to: n },
+        Request::Load => 0..n,
         Request::Change(i, _) => one(i, n),
         Request::Add(_, _, _) => one(count, n),
-        _ => Places { from: 0, to: 0 },
+        _ => 0..0,
     }
 }

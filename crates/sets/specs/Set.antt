@@ -1,5 +1,5 @@
 -- Sets of depots, and the numbers that stand for them. A width k is how many depots there are: here 64.
-use Rattle.std.specs.Prelude.{Bool, false, not, ◌&&◌, ◌||◌, cond, ℕ, zero, suc, ◌+◌, ◌*◌, ◌/◌, ◌%◌, ◌^◌, T, eqb}
+use Rattle.std.specs.Prelude.{◌≡◌, MatchOption, Option, Bool, true, false, not, ◌&&◌, ◌||◌, cond, ℕ, zero, suc, ◌+◌, ◌*◌, ◌/◌, ◌%◌, ◌^◌, ◌<◌, T, eqb}
 use Rattle.sets.specs.Sum.{when, sum, any}
 
 -- a set of depots
@@ -62,3 +62,9 @@ cardinality X k = weigh (λ d. 1) X k
 unfoldable pub lowest : Depots → ℕ → ℕ
 lowest X zero = 0
 lowest X (suc k) = cond (X 0) 0 (suc (lowest (λ d. X (suc d)) k))
+
+-- the next depot of a set from the lowest on, and what is left of the set
+abbrev pub TakesLowest : ℕ → Option ℕ → ℕ → Type 0
+TakesLowest left next left' =
+    MatchOption next ((is_empty (has left) 64 ≡ true) × (left' ≡ left))
+    (λ d. (left < 2 ^ 64) × (is_empty (has left) 64 ≡ false) × (d < 64) × (d ≡ lowest (has left) 64) × (left' ≡ set_of (has left ∖ has (set_of (only d) 64)) 64))

@@ -3,7 +3,8 @@
 #![tactic(auto)]
 
 ghost use Rattle.std.specs.Prelude.{◌≡◌, true, ℕ, ◌<◌, ◌≤◌, length, get_or};
-ghost use Rattle.sets.specs.Set.{only, ◌∪◌, ◌∩◌, ◌∖◌, has, set_of, is_empty, weigh, cardinality, lowest};
+ghost use Rattle.std.specs.Iterator.{at_most};
+ghost use Rattle.sets.specs.Set.{only, ◌∪◌, ◌∩◌, ◌∖◌, has, set_of, is_empty, weigh, cardinality, lowest, TakesLowest};
 
 // Is the depot in the set? A number from 64 on is in none.
 pub fn contains(set: u64, depot: u8) -> bool
@@ -71,17 +72,45 @@ pub fn lowest(set: u64) -> u8
     u64::trailing_zeros(set) as u8
 }
 
+// The depots of a set from the lowest on, one at each step: `left` has those that are still to come.
+#[derive(Clone, Copy)]
+pub struct InOrder {
+    left: u64,
+}
+
+impl Iterator for InOrder {
+    type Item = u8;
+
+    ghost next_gives = { λ s r t. TakesLowest s.left r t.left };
+
+    ghost remaining = { λ s. at_most (cardinality (has s.left) 64) };
+
+    fn next(&mut self) -> Option<u8> {
+        let left = self.left;
+        if is_empty(left) {
+            return None;
+        }
+        let d = lowest(left);
+        self.left = without(left, single(d));
+        Some(d)
+    }
+}
+
+// The depots of the set, from the lowest on.
+pub fn depots(set: u64) -> InOrder
+    ensures { result.left ≡ set }
+{
+    InOrder { left: set }
+}
+
 // The weights of the set's depots added up, from the lowest depot on.
 fn add_weights(weights: &[u64], set: u64) -> u64
     requires { (length weights.now ≡ 64) × ((d : ℕ) → d < 64 → get_or weights.now d 0 ≤ 9) }
     ensures { result ≡ weigh (λ d. get_or weights.now d 0) (has set) 64 }
 {
     let mut total: u64 = 0;
-    let mut left = set;
-    while !is_empty(left) {
-        let d = lowest(left);
-        total = total + weights[d as usize];
-        left = without(left, single(d));
+    for d in depots(set) {
+        total += weights[d as usize];
     }
     total
 }

@@ -1,6 +1,10 @@
 -- Document 01, "Entry points": what a desk call is given, and what it answers; document 02, e: what a history is made of.
 use Rattle.std.specs.Prelude.{List, [], ℕ, ℤ, length}
+use Rattle.std.specs.declared.result.Result.{Result}
+use Rattle.std.specs.declared.result.Result.TheVariants.{Ok, Err}
 use Rattle.density.specs.declared.Site.{Site}
+use Rattle.records.specs.declared.refusal.Refusal.{Refusal}
+use Rattle.records.specs.Refusals.{number}
 use Rattle.records.specs.Write.{onto}
 use Rattle.store.specs.declared.Request.{Request}
 use Rattle.store.specs.declared.Answer.{Answer}
@@ -24,14 +28,14 @@ pub data Told : Type 0 where
   reached : ℕ → Told
 
 -- the paper's number and values for each case of the answer
-abbrev pub told : Answer → Told
-told (of.Refused n) = refused n
-told of.Done = done
-told (of.Share s w) = shared s w
-told (of.Depot w q) = loaded w q
-told (of.Difference d q) = differ d q
-told (of.Length n) = wrote n
-told (of.Reached x) = reached x
+abbrev pub told : Result Answer Refusal → Told
+told (Err e) = refused (number e)
+told (Ok of.Done) = done
+told (Ok (of.Share s w)) = shared s w
+told (Ok (of.Depot w q)) = loaded w q
+told (Ok (of.Difference d q)) = differ d q
+told (Ok (of.Length n)) = wrote n
+told (Ok (of.Reached x)) = reached x
 
 -- An answer, and the buffer as it then is.
 pub record Reply : Type 0 where

@@ -3,6 +3,7 @@
 
 use density::Site;
 use held_state::Store;
+use records::Refusal;
 
 pub mod decide;
 
@@ -21,10 +22,9 @@ pub enum Request {
     ListWritten,
 }
 
-// What a call answers.
-#[derive(Clone, Copy)]
+// What a call answers where no row refuses it.
+#[derive(Clone, Copy, PartialEq, Eq)]
 pub enum Answer {
-    Refused(u8),
     Done,
     Share(u64, u64),
     Depot(u64, u64),
@@ -36,7 +36,7 @@ pub enum Answer {
 // What a call does: its answer, the store after it, and the sites of which the first n go to the table.
 #[derive(Clone, Copy)]
 pub struct Decision {
-    pub answer: Answer,
+    pub answer: Result<Answer, Refusal>,
     pub store: Store,
     pub sites: [Site; 512],
     pub n: usize,

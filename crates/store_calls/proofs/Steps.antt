@@ -3,7 +3,7 @@ use mathlib.Core.Path.{◌≡◌, refl, sym, ap, ap₂, ◌∙◌}
 use mathlib.Core.Logic.{◌⊎◌, inl, inr, ⊎_elim}
 use mathlib.Core.Bool.{false}
 use mathlib.Core.List.{List}
-use mathlib.Core.Option.{Option, none}
+use mathlib.Core.Option.{Option, none, some}
 use Prim.Native.Nat.{ℕ, ◌+◌, ◌≤◌, ◌<◌}
 use native.Mathlib.Nat.{lt_of_not-le}
 use native.Mathlib.Omega.{arith}
@@ -21,9 +21,6 @@ use Rattle.records.specs.Outcome.{Outcome, refused, passed, settle as settled, g
 use Rattle.records.proofs.RoundTrip.{plan-read}
 use Rattle.records.proofs.Records.{length-records}
 use Rattle.records.proofs.Outcomes.{Clear, clear, or-false}
-use Rattle.tables.specs.declared.Verdict.TheVariants.{Passes, Refused}
-use Rattle.tables.specs.Verdict.{verdict}
-use Rattle.tables.proofs.Verdicts.{verdict-refused, verdict-passes}
 use Rattle.judge.specs.Check.{judged_for}
 use Rattle.held_state.specs.Held.{State, list_of, corrupt}
 use Rattle.held_state.proofs.Intact.{intact→, sized}
@@ -113,26 +110,26 @@ module _ (s : State) (c : Call) where
           shares ∙ size,
         )
 
-    pub change-refused : (i w n : ℕ) → c.request ≡ Change i w → verdict (first_row (rows_of (model_of s) c (Change i w))) ≡ Refused n → RefusedBy s c n
-    change-refused i w n q h = refused-step s c n (row_is_lem s c z (Change i w) q ∙ verdict-refused _ n h)
+    pub change-refused : (i w n : ℕ) → c.request ≡ Change i w → first_row (rows_of (model_of s) c (Change i w)) ≡ some n → RefusedBy s c n
+    change-refused i w n q h = refused-step s c n (row_is_lem s c z (Change i w) q ∙ h)
 
-    pub change-passed : (i w : ℕ) → c.request ≡ Change i w → verdict (first_row (rows_of (model_of s) c (Change i w))) ≡ Passes
+    pub change-passed : (i w : ℕ) → c.request ≡ Change i w → first_row (rows_of (model_of s) c (Change i w)) ≡ none
         → (step s c ≡ next s (bare s.store.count s.store.roll) (set s.table i (with_litres (site_at (list_of s) i) w)) (same c done)) × (i < s.store.count)
     change-passed i w q h =
-        let o = verdict-passes _ h in
+        let o = h in
         let k = none-clear (rows_of (model_of s) c (Change i w)) o in
         let l = below (length (list_of s).sites) i k.1.0 in
         (granted-to s c (Change i w) q (row_is_lem s c z (Change i w) q ∙ o), omega (arith, size))
 
-    pub add-refused : (f d w n : ℕ) → c.request ≡ Add f d w → verdict (first_row (rows_of (model_of s) c (Add f d w))) ≡ Refused n → RefusedBy s c n
-    add-refused f d w n q h = refused-step s c n (row_is_lem s c z (Add f d w) q ∙ verdict-refused _ n h)
+    pub add-refused : (f d w n : ℕ) → c.request ≡ Add f d w → first_row (rows_of (model_of s) c (Add f d w)) ≡ some n → RefusedBy s c n
+    add-refused f d w n q h = refused-step s c n (row_is_lem s c z (Add f d w) q ∙ h)
 
-    pub add-passed : (f d w : ℕ) → c.request ≡ Add f d w → verdict (first_row (rows_of (model_of s) c (Add f d w))) ≡ Passes
+    pub add-passed : (f d w : ℕ) → c.request ≡ Add f d w → first_row (rows_of (model_of s) c (Add f d w)) ≡ none
         → (step s c ≡ next s (bare (s.store.count + 1) s.store.roll) (set s.table s.store.count (site_from f d w)) (same c done))
         × (s.store.count < 512)
         × (s.store.count < length s.table)
     add-passed f d w q h =
-        let o = verdict-passes _ h in
+        let o = h in
         let k = none-clear (rows_of (model_of s) c (Add f d w)) o in
         let m = or-false (leb 512 (length (list_of s).sites)) (leb (length s.table) (length (list_of s).sites)) k.0 in
         let few = below 512 (length (list_of s).sites) m.0 in
@@ -146,12 +143,12 @@ module _ (s : State) (table : List Site) where
   rows = migrate_rows (model_of s) (length table)
 
   module _ (z : corrupt s ≡ false) where
-    pub migrate-refused : (n : ℕ) → verdict (first_row rows) ≡ Refused n → step_on s (migrate table) ≡ stays s (unbuffered (row n))
-    migrate-refused n h = ap (λ (o : Option ℕ). migrate_step o s table) (migrate-sound s table z ∙ verdict-refused _ n h)
+    pub migrate-refused : (n : ℕ) → first_row rows ≡ some n → step_on s (migrate table) ≡ stays s (unbuffered (row n))
+    migrate-refused n h = ap (λ (o : Option ℕ). migrate_step o s table) (migrate-sound s table z ∙ h)
 
-    pub migrate-passed : verdict (first_row rows) ≡ Passes
+    pub migrate-passed : first_row rows ≡ none
         → (step_on s (migrate table) ≡ record { after = migrated s table; reply = unbuffered done }) × (s.store.count ≤ length table)
     migrate-passed h =
-        let o = verdict-passes _ h in
+        let o = h in
         let few = ltb-false (length table) (length (list_of s).sites) (none-clear rows o).0 in
         (ap (λ (o : Option ℕ). migrate_step o s table) (migrate-sound s table z ∙ o), omega (arith, (held-count s z).2))

@@ -4,7 +4,7 @@ use Rattle.density.specs.declared.Site.{Site}
 use Rattle.held_state.specs.declared.Store.{Store}
 use Rattle.store_entries2.specs.Edition2.{entry2}
 use Rattle.store.specs.Calls.{Event, Reply}
-use Rattle.serve.specs.Entries.{Passed, event, Result, replied, Called, Calls, first, CalledOn, CallsOn}
+use Rattle.serve.specs.Entries.{Passed, event, Returned, replied, Called, Calls, first, CalledOn, CallsOn}
 
 -- what a call is passed and gives back, as the definition has it
 abbrev pub Passed2 : Type 0
@@ -14,7 +14,7 @@ abbrev pub event2 : Passed2 → Event
 event2 = event entry2
 
 abbrev pub Result2 : Type 0
-Result2 = Result entry2
+Result2 = Returned entry2
 
 abbrev pub replied2 : Result2 → Reply
 replied2 = replied entry2

@@ -9,22 +9,22 @@ ghost use Rattle.store_entries2.specs.Edition2.{view2, call_of2, Typed2, fresh2,
 
 use density::Site;
 use held_state::Store;
-use records::{edition2, no_roll};
+use records::{Refusal, edition2, no_roll};
 use serve::{serve, stored};
 use store::{Answer, Decision, Request};
-use table::places_on;
+use table::{NO_SITE, places_on};
 
 // What a call of edition 2 gives back.
 #[derive(Clone, Copy)]
 pub struct Out2 {
-    pub answer: Answer,
+    pub answer: Result<Answer, Refusal>,
     pub store: Store,
 }
 
 // What a call gives back to a program that owns its table.
 #[derive(Clone, Copy)]
 pub struct OutOn2 {
-    pub answer: Answer,
+    pub answer: Result<Answer, Refusal>,
     pub store: Store,
     pub table: [Site; 600],
 }
@@ -33,14 +33,13 @@ pub struct OutOn2 {
 pub fn fresh2() -> Store
     ensures { result ≡ fresh2 }
 {
-    let roll = no_roll();
     Store {
         count: 0,
         held: false,
         grouped: 0,
         groups: [0; 64],
         shares: [0; 512],
-        roll,
+        roll: no_roll(),
     }
 }
 
@@ -58,6 +57,7 @@ fn serve2(
     serve(edition2(), store, sites, places, request, input, buffer)
 }
 
+// Kept: `call2` and `call_on2` beside those of edition 1: their contracts speak of other stores and views, and theorems name all four.
 // A call, over a lent table. Four calls and no branch.
 pub fn call2(
     store: Store,
@@ -68,10 +68,10 @@ pub fn call2(
 ) -> Out2
     ensures { Typed2 request input.now × (turned2 result table.new buffer.new ≡ step (view2 store table.old) (call_of2 request input.now buffer.old)) }
 {
-    let sites = table::wide::held2(table);
+    let sites = table::held(table, NO_SITE);
     let d = serve2(store, sites, table.len(), request, input, buffer);
     let places = stored(request, store.count, d.n);
-    table::wide::store2(table, d.sites, places.from, places.to);
+    table::store(table, d.sites, places.start, places.end);
     Out2 {
         answer: d.answer,
         store: d.store,

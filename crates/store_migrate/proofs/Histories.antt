@@ -15,6 +15,8 @@ use Rattle.records.specs.Format.{edition1, edition2}
 use Rattle.records.proofs.Samples.{marked1}
 use Rattle.held_state.specs.declared.Store.{Store}
 use Rattle.held_state.specs.Held.{State}
+use Rattle.std.specs.declared.result.Result.{Result}
+use Rattle.records.specs.declared.refusal.Refusal.{Refusal}
 use Rattle.store.specs.declared.Answer.{Answer}
 use Rattle.store.specs.Calls.{Event, migrate, Reply, Told, told, unbuffered, done}
 use Rattle.store.specs.State.{model_of, migrate_row, migrate_step}
@@ -47,7 +49,7 @@ module _ (s : Store1) (t : List Site1) (new : List Site) (store : Store) (last :
   over_by (some n) a e f g =
       subst (λ (a : Told). record { after = viewed (cond (ended a) (of2 store last) (of1 s t)); reply = unbuffered a } ≡ migrate_step (some n) (view1 s t) new) (sym e) refl
 
-  pub over-goes : (answer : Answer) → MovedOver (view1 s t) new answer store last
+  pub over-goes : (answer : Result Answer Refusal) → MovedOver (view1 s t) new answer store last
       → Goes (view1 s t) (migrate new) (unbuffered (told answer)) (viewed (goes_on s t answer store last))
   over-goes answer m = (refl, over_by (migrate_row (view1 s t) new) (told answer) m.answered m.stored m.table)
 
@@ -101,7 +103,7 @@ module _ {d : AnyStore} {table : List Site1} {vs : List Event} {rs : List Reply}
 
 -- Document 02, e: what is written out after the step is what the converter makes of what was written out before.
 pub calls-converted : {s : Store1} {table t : List Site1} {vs : List Event} {rs : List Reply} → Calls (of1 fresh1 table) vs rs (of1 s t)
-    → (new last : List Site) (answer : Answer) (store : Store) → MovedOver (view1 s t) new answer store last → told answer ≡ done
+    → (new last : List Site) (answer : Result Answer Refusal) (store : Store) → MovedOver (view1 s t) new answer store last → told answer ≡ done
     → Converted (view1 s t) (viewed (goes_on s t answer store last))
 calls-converted {s} {table} {t} calls new last answer store m ok =
     written_over marked1 (calls-history calls) (calls-bytes calls)

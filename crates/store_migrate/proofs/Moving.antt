@@ -3,24 +3,25 @@
 use mathlib.Core.Path.{◌≡◌, refl, sym, ap, ap₂, ◌∙◌, subst}
 use mathlib.Core.Bool.{true, false}
 use mathlib.Core.List.{List, ◌++◌, map}
-use mathlib.Core.Option.{none}
+use mathlib.Core.Option.{Option, none, some}
 use Prim.Native.Nat.{ℕ, ◌≤◌, zero-le}
 use native.Mathlib.Omega.{arith}
 use lib.ListN.{length, take, drop, replicate, length-map, length-replicate}
 use lib.Seq.{length-take-le}
+use Rattle.std.specs.declared.result.Result.TheVariants.{Ok, Err}
 use Rattle.sets.proofs.Test.{passes}
 use Rattle.density.specs.declared.Site.{Site}
 use Rattle.density.specs.Network.{no_site}
 use Rattle.density.specs.Rows.{first_row}
 use Rattle.records.specs.declared.Edition.{Edition}
 use Rattle.records.specs.declared.RollArray.{RollArray}
+use Rattle.records.specs.declared.refusal.Refusal.{Refusal}
+use Rattle.records.specs.declared.refusal.Refusal.TheVariants.{CorruptStore}
+use Rattle.records.specs.Refusals.{number}
 use Rattle.records.specs.Values.{roll_array}
 use Rattle.records.specs.Format.{edition1}
 use Rattle.records.specs.Answer.{filled}
 use Rattle.records.proofs.Records.{filled-front}
-use Rattle.tables.specs.declared.Verdict.{Verdict}
-use Rattle.tables.specs.declared.Verdict.TheVariants as verdict
-use Rattle.tables.specs.Verdict.{verdict}
 use Rattle.table.specs.declared.Site1.{Site1}
 use Rattle.table.specs.Table.{overlay, between, held_of}
 use Rattle.table.specs.Widths.{no_site1, widened}
@@ -69,11 +70,11 @@ carries-plan s {roll} {gs} {ss} r t some-sites small (g, many) (x, each) e table
 -- ---- what the step leaves
 
 module _ (s : State) (new : List Site) where
-  moved-refused : (n : ℕ) → step_on s (migrate new) ≡ stays s (unbuffered (refused n)) → MovedOver s new (of.Refused n) s.store new
-  moved-refused n h =
+  moved-refused : (x : Refusal) → step_on s (migrate new) ≡ stays s (unbuffered (refused (number x))) → MovedOver s new (Err x) s.store new
+  moved-refused x h =
       record { answered = ap (λ (d : Done). d.reply.answer) (sym h); stored = ap (λ (d : Done). d.after.store) (sym h); table = refl }
 
-  moved-done : step_on s (migrate new) ≡ record { after = migrated s new; reply = unbuffered done } → MovedOver s new of.Done (carried s) ((list_of s).sites ++ drop s.store.count new)
+  moved-done : step_on s (migrate new) ≡ record { after = migrated s new; reply = unbuffered done } → MovedOver s new (Ok of.Done) (carried s) ((list_of s).sites ++ drop s.store.count new)
   moved-done h =
       record {
         answered = ap (λ (d : Done). d.reply.answer) (sym h);
@@ -91,40 +92,40 @@ pub record Moves (store : Store) (sites : List Site) (places room : ℕ) (r : De
 
 module _ (store : Store) (sites : List Site) (places room : ℕ) where
   -- what row 2 finds
-  abbrev pub MigrateRow : Verdict → Type 0
-  MigrateRow v = (b : Model) → length b.list.sites ≡ store.count → v ≡ verdict (first_row (migrate_rows b room))
+  abbrev pub MigrateRow : Option ℕ → Type 0
+  MigrateRow v = (b : Model) → length b.list.sites ≡ store.count → v ≡ first_row (migrate_rows b room)
 
   abbrev Goes : Decision → Type 0
   Goes r = Moves store sites places room r
 
-  refuses : (n : ℕ) → ((new : List Site) → room ≡ length new → AtTable store sites places edition1 (λ s. step_on s (migrate new) ≡ stays s (unbuffered (refused n))))
-      → (r : Decision) → r ≡ record { answer = of.Refused n; store = store; sites = sites; n = 0 } → Goes r
-  refuses n f r q =
+  refuses : (x : Refusal) → ((new : List Site) → room ≡ length new → AtTable store sites places edition1 (λ s. step_on s (migrate new) ≡ stays s (unbuffered (refused (number x)))))
+      → (r : Decision) → r ≡ record { answer = Err x; store = store; sites = sites; n = 0 } → Goes r
+  refuses x f r q =
       subst Goes (sym q)
       (record {
         steps = λ new l table k h.
             let s = on edition1 store table in
-            subst (MovedOver s new (of.Refused n) store) (sym (overlay-none sites new)) (moved-refused s new n (f new l table k h));
+            subst (MovedOver s new (Err x) store) (sym (overlay-none sites new)) (moved-refused s new x (f new l table k h));
         few = zero-le;
         fits = zero-le;
       })
 
-  pub moves-zero : Zero store sites places true → (r : Decision) → r ≡ record { answer = of.Refused 0; store = store; sites = sites; n = 0 } → Goes r
-  moves-zero z = refuses 0 (λ new l table k h. migrate-zero (on edition1 store table) new (sym (z edition1 table k h)))
+  pub moves-zero : Zero store sites places true → (r : Decision) → r ≡ record { answer = Err CorruptStore; store = store; sites = sites; n = 0 } → Goes r
+  moves-zero z = refuses CorruptStore (λ new l table k h. migrate-zero (on edition1 store table) new (sym (z edition1 table k h)))
 
   module _ (wide : length sites ≡ 512) (zero : Zero store sites places false) where
-    row_is_lem : (v : Verdict) → MigrateRow v → (new : List Site) → room ≡ length new
-        → AtTable store sites places edition1 (λ s. (corrupt s ≡ false) × (verdict (first_row (migrate_rows (model_of s) (length new))) ≡ v))
+    row_is_lem : (v : Option ℕ) → MigrateRow v → (new : List Site) → room ≡ length new
+        → AtTable store sites places edition1 (λ s. (corrupt s ≡ false) × (first_row (migrate_rows (model_of s) (length new)) ≡ v))
     row_is_lem v m new l table k h =
         let s = on edition1 store table in
         let z = sym (zero edition1 table k h) in
-        (z, ap (λ (x : ℕ). verdict (first_row (migrate_rows (model_of s) x))) (sym l) ∙ sym (m (model_of s) (held-count s z).2))
+        (z, ap (λ (x : ℕ). first_row (migrate_rows (model_of s) x)) (sym l) ∙ sym (m (model_of s) (held-count s z).2))
 
-    pub moves-refused : (n : ℕ) → MigrateRow (verdict.Refused n) → (r : Decision) → r ≡ record { answer = of.Refused n; store = store; sites = sites; n = 0 } → Goes r
-    moves-refused n m =
-        refuses n (λ new l table k h.
-        let (z, v) = row_is_lem (verdict.Refused n) m new l table k h in
-        migrate-refused (on edition1 store table) new z n v)
+    pub moves-refused : (x : Refusal) → MigrateRow (some (number x)) → (r : Decision) → r ≡ record { answer = Err x; store = store; sites = sites; n = 0 } → Goes r
+    moves-refused x m =
+        refuses x (λ new l table k h.
+        let (z, v) = row_is_lem (some (number x)) m new l table k h in
+        migrate-refused (on edition1 store table) new z (number x) v)
 
     -- what is asked to carry the store over
     pub carry-asks : (store.count ≤ 512) × (store.held ≡ true → store.grouped ≤ 64)
@@ -132,24 +133,24 @@ module _ (store : Store) (sites : List Site) (places room : ℕ) where
         let (table, k, h) = a-table sites places wide in
         (few store sites places wide zero, λ t. (intact→ (on edition1 store table) (sym (zero edition1 table k h))).groups (passes store.held t))
 
-    enough : MigrateRow verdict.Passes → store.count ≤ room
+    enough : MigrateRow none → store.count ≤ room
     enough m =
         let (table, k, h) = a-table sites places wide in
         let new = replicate room no_site in
-        let (z, v) = row_is_lem verdict.Passes m new (sym (length-replicate room no_site)) table k h in
+        let (z, v) = row_is_lem none m new (sym (length-replicate room no_site)) table k h in
         subst (λ (x : ℕ). store.count ≤ x) (length-replicate room no_site) (migrate-passed (on edition1 store table) new z v).1
 
-    pub moves-done : MigrateRow verdict.Passes → {next : Store} → ((e : Edition) (table : List Site) → next ≡ carried (on e store table))
-        → Goes (record { answer = of.Done; store = next; sites = sites; n = store.count })
+    pub moves-done : MigrateRow none → {next : Store} → ((e : Edition) (table : List Site) → next ≡ carried (on e store table))
+        → Goes (record { answer = Ok of.Done; store = next; sites = sites; n = store.count })
     unfolding overlay
     moves-done m {next} c =
         record {
           steps = λ new l table k h.
               let s = on edition1 store table in
-              let (z, v) = row_is_lem verdict.Passes m new l table k h in
+              let (z, v) = row_is_lem none m new l table k h in
               let front = same-front sites table places h store.count (few store sites places wide zero) (places-enough store sites places wide zero) in
-              subst (λ (x : Store). MovedOver s new of.Done x (take store.count sites ++ drop store.count new)) (sym (c edition1 table))
-              (subst (λ (xs : List Site). MovedOver s new of.Done (carried s) (xs ++ drop store.count new)) (sym front)
+              subst (λ (x : Store). MovedOver s new (Ok of.Done) x (take store.count sites ++ drop store.count new)) (sym (c edition1 table))
+              (subst (λ (xs : List Site). MovedOver s new (Ok of.Done) (carried s) (xs ++ drop store.count new)) (sym front)
               (moved-done s new (migrate-passed s new z v).0));
           few = few store sites places wide zero;
           fits = enough m;

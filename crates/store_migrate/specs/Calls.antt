@@ -1,6 +1,8 @@
 -- Calls of the typed entries of both editions, and the step from edition 1 to edition 2, one after another.
 use Rattle.std.specs.Prelude.{cond, List, [], ◌∷◌}
+use Rattle.std.specs.declared.result.Result.{Result}
 use Rattle.density.specs.declared.Site.{Site}
+use Rattle.records.specs.declared.refusal.Refusal.{Refusal}
 use Rattle.table.specs.declared.Site1.{Site1}
 use Rattle.held_state.specs.declared.Store.{Store}
 use Rattle.held_state.specs.Held.{State}
@@ -24,7 +26,7 @@ viewed (of1 s table) = view1 s table
 viewed (of2 s table) = view2 s table
 
 -- what the next call gets after the step: where it is done the store given back and the new table, where it is refused the old ones
-abbrev pub goes_on : Store1 → List Site1 → Answer → Store → List Site → AnyStore
+abbrev pub goes_on : Store1 → List Site1 → Result Answer Refusal → Store → List Site → AnyStore
 goes_on s table answer store new = cond (ended (told answer)) (of2 store new) (of1 s table)
 
 -- "Each call gets the desk and the table as the one before left them, and nobody else writes either meanwhile." The step takes a store of edition 1 and a new table of any length
@@ -35,5 +37,5 @@ pub data Calls : AnyStore → List Event → List Reply → AnyStore → Type 0 
       → Calls (of1 r.store r.table) vs rs d → Calls (of1 s t) (event1 p ∷ vs) (replied1 r ∷ rs) d
   next2 : {s : Store} {t : List Site} {vs : List Event} {rs : List Reply} {d : AnyStore} (p : Passed2) (r : Result2) → Called2 s t p r
       → Calls (of2 r.store r.table) vs rs d → Calls (of2 s t) (event2 p ∷ vs) (replied2 r ∷ rs) d
-  over : {s : Store1} {t : List Site1} {new last : List Site} {store : Store} {vs : List Event} {rs : List Reply} {d : AnyStore} (answer : Answer)
+  over : {s : Store1} {t : List Site1} {new last : List Site} {store : Store} {vs : List Event} {rs : List Reply} {d : AnyStore} (answer : Result Answer Refusal)
       → MovedOver (view1 s t) new answer store last → Calls (goes_on s t answer store last) vs rs d → Calls (of1 s t) (migrate new ∷ vs) (unbuffered (told answer) ∷ rs) d

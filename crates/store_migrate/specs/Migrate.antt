@@ -1,6 +1,8 @@
 -- Document 02, e: the step to edition 2 over lent tables of site structs.
 use Rattle.std.specs.Prelude.{◌≡◌, cond, List, ℕ, ◌≤◌, length, take}
+use Rattle.std.specs.declared.result.Result.{Result}
 use Rattle.density.specs.declared.Site.{Site}
+use Rattle.records.specs.declared.refusal.Refusal.{Refusal}
 use Rattle.table.specs.declared.Site1.{Site1}
 use Rattle.table.specs.Table.{overlay}
 use Rattle.held_state.specs.declared.Store.{Store}
@@ -15,7 +17,7 @@ use Rattle.edition1.specs.Edition1.{view1}
 
 -- What the step leaves: its answer; the store, which is that of edition 2 where it is done and the old one's figures where it is refused; and the new table, which a refusal
 -- leaves as it was. The old table is only read.
-pub record MovedOver (s : State) (new : List Site) (answer : Answer) (store : Store) (last : List Site) : Type 0 where
+pub record MovedOver (s : State) (new : List Site) (answer : Result Answer Refusal) (store : Store) (last : List Site) : Type 0 where
   pub answered : told answer ≡ (step_on s (migrate new)).reply.answer
   pub stored : store ≡ (step_on s (migrate new)).after.store
   pub table : last ≡ cond (ended (told answer)) (step_on s (migrate new)).after.table new

@@ -11,46 +11,23 @@ ghost use Rattle.edition1.specs.Edition1.{view1};
 ghost use Rattle.store_migrate.specs.Migrate.{MovedOver, Decided};
 
 use density::Site;
-use edition1::{Store1, widen_store};
+use edition1::Store1;
 use held_state::Store;
-use records::no_roll;
+use records::{Refusal, no_roll};
 use serve::row_zero;
 use store::decide::refuse;
 use store::{Answer, Decision};
 use store_calls::migrate_row;
 use store_entries2::Out2;
-use table::{Site1, widen_all};
-use tables::Verdict;
+use table::{NO_SITE1, Site1, widen_all};
 
-// The first n numbers go to the front of `out`. The others keep their content.
-fn copy_first(out: &mut [u64], xs: &[u64], n: usize)
-    requires { (n ≤ length xs.now) × (n ≤ length out.old) }
-    ensures { out.new ≡ overlay n xs.now out.old }
+// The first n numbers of an array, and zeros.
+fn first<const N: usize>(xs: [u64; N], n: usize) -> [u64; N]
+    requires { n ≤ N }
+    ensures { (result ≡ overlay n xs.entry (replicate N 0)) × (length xs.entry ≡ N) }
 {
-    let mut i = 0;
-    while i < n {
-        out[i] = xs[i];
-        i += 1;
-    }
-}
-
-// The first n group sets, and zeros.
-fn first_groups(groups: [u64; 64], n: usize) -> [u64; 64]
-    requires { n ≤ 64 }
-    ensures { (result ≡ overlay n groups (replicate 64 0)) × (length groups ≡ 64) }
-{
-    let mut a = [0u64; 64];
-    copy_first(&mut a, &groups, n);
-    a
-}
-
-// The first n shares, and zeros.
-fn first_shares(shares: [u64; 512], n: usize) -> [u64; 512]
-    requires { n ≤ 512 }
-    ensures { (result ≡ overlay n shares (replicate 512 0)) × (length shares ≡ 512) }
-{
-    let mut a = [0u64; 512];
-    copy_first(&mut a, &shares, n);
+    let mut a = [0; N];
+    a[..n].copy_from_slice(&xs[..n]);
     a
 }
 
@@ -59,30 +36,25 @@ fn carry(store: Store) -> Store
     requires { (store.count ≤ 512) × (store.held ≡ true → store.grouped ≤ 64) }
     ensures { (e : Edition) (table : List Site) → result ≡ carried (on e store table) }
 {
-    let count = store.count;
-    let roll = no_roll();
     if !store.held {
         return Store {
-            count,
+            count: store.count,
             held: false,
             grouped: 0,
             groups: [0; 64],
             shares: [0; 512],
-            roll,
+            roll: no_roll(),
         };
     }
-    let grouped = store.grouped;
-    let sets = store.groups;
-    let parts = store.shares;
-    let groups = first_groups(sets, grouped);
-    let shares = first_shares(parts, count);
+    let groups = first(store.groups, store.grouped);
+    let shares = first(store.shares, store.count);
     Store {
-        count,
+        count: store.count,
         held: true,
-        grouped,
+        grouped: store.grouped,
         groups,
         shares,
-        roll,
+        roll: no_roll(),
     }
 }
 
@@ -90,22 +62,19 @@ fn carry(store: Store) -> Store
 fn decide(store: Store1, sites: [Site1; 512], places: usize, room: usize) -> Decision
     ensures { Decided store sites places room result }
 {
-    let wide = widen_store(store);
+    let wide = Store::from(store);
     let all = widen_all(sites);
     if row_zero(wide, all, places) {
-        return refuse(wide, all, 0);
+        return refuse(wide, all, Refusal::CorruptStore);
     }
-    let count = wide.count;
-    let verdict = migrate_row(count, room);
-    if let Verdict::Refused(n) = verdict {
-        return refuse(wide, all, n);
+    if let Err(row) = migrate_row(wide.count, room) {
+        return refuse(wide, all, row);
     }
-    let next = carry(wide);
     Decision {
-        answer: Answer::Done,
-        store: next,
+        answer: Ok(Answer::Done),
+        store: carry(wide),
         sites: all,
-        n: count,
+        n: wide.count,
     }
 }
 
@@ -113,9 +82,9 @@ fn decide(store: Store1, sites: [Site1; 512], places: usize, room: usize) -> Dec
 pub fn migrate(store: Store1, table: &[Site1], new: &mut [Site]) -> Out2
     ensures { MovedOver (view1 store table.now) new.old result.answer result.store new.new }
 {
-    let sites = table::held1(table);
+    let sites = table::held(table, NO_SITE1);
     let d = decide(store, sites, table.len(), new.len());
-    table::wide::store2(new, d.sites, 0, d.n);
+    table::store(new, d.sites, 0, d.n);
     Out2 {
         answer: d.answer,
         store: d.store,

@@ -22,6 +22,8 @@ use Rattle.records.specs.Format.{edition1, edition2}
 use Rattle.records.specs.Write.{Marked}
 use Rattle.held_state.specs.declared.Store.{Store}
 use Rattle.held_state.specs.Held.{State, on}
+use Rattle.std.specs.declared.result as std
+use Rattle.records.specs.declared.refusal.Refusal.{Refusal}
 use Rattle.store.specs.declared.Answer.{Answer}
 use Rattle.store.specs.Calls.{Event, Reply, Told, told, unbuffered, done, refused}
 use Rattle.store.specs.State.{model_of, migrate_row, migrate_step}
@@ -39,7 +41,7 @@ module _ {M : Type 1} {𝓤 : Ura M} (𝓛 : Logic 𝓤) (mem : Memory → SProp
     (store store' table table' : Bor (List ℕ)) (store2 store2' table2 table2' : MutBor (List ℕ)) where
   open connectives 𝓤 use {⌜◌⌝}
 
-  migrate-says : (r : Answer)
+  migrate-says : (r : std.Result.Result Answer Refusal)
       → (of-migrate.clauses 𝓛 mem run κs (store, (table, (store2, (table2, tt))))).ensures tt r (store', (table', (store2', (table2', tt))))
       ≡ ⌜ Migrated store.now table.now store2.now table2.now (told r) store2'.now table2'.now ⌝
   migrate-says r = refl

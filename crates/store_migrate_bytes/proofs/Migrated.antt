@@ -2,7 +2,7 @@
 use Prim.Native.Nat.{ℕ, zero, suc, ◌+◌, ◌-◌, ◌<◌, ◌≤◌, ◌^◌}
 use mathlib.Core.Bool.{Bool, true, false, cond, not, ◌&&◌}
 use mathlib.Core.List.{List, ◌++◌}
-use mathlib.Core.Option.{none}
+use mathlib.Core.Option.{Option, none, some}
 use mathlib.Core.Logic.{⊎_elim}
 use mathlib.Core.Path.{◌≡◌, refl, ap, ap₂, subst, sym, ◌∙◌}
 use native.Mathlib.Nat.{sub-zero, zero-sub}
@@ -22,9 +22,6 @@ use Rattle.records.specs.Answer.{filled}
 use Rattle.records.specs.Bytes.{Bytes, field}
 use Rattle.records.specs.Format.{edition1, edition2}
 use Rattle.table.specs.Table.{overlay}
-use Rattle.tables.specs.declared.Verdict.{Verdict}
-use Rattle.tables.specs.declared.Verdict.TheVariants.{Passes, Refused}
-use Rattle.tables.specs.Verdict.{verdict}
 use Rattle.held_state.specs.declared.Store.{Store}
 use Rattle.held_state.specs.Held.{State, on, list_of, plan_held, corrupt}
 use Rattle.held_state.proofs.Intact.{Intact, intact→}
@@ -83,12 +80,12 @@ store-places w r s = by (leb (field s 8 8) 1 && not (roll_wrong r (drop (front_s
 
 -- ---- the step
 
--- what is read of a store of edition 1 and its table, which row 0 does not refuse, and the verdict of row 2
-pub record Old (s t t₂ : List ℕ) (h : Header) (gs ss : List ℕ) (list : ListArray) (r : Verdict) : Type 0 where
+-- what is read of a store of edition 1 and its table, which row 0 does not refuse, and whether row 2 does
+pub record Old (s t t₂ : List ℕ) (h : Header) (gs ss : List ℕ) (list : ListArray) (r : Option ℕ) : Type 0 where
   pub read : StoreRead edition1.share edition1.roll s (replicate 64 0) (replicate 512 0) h gs ss
   pub listed : Listed edition1 t h.count h.roll list
   pub sound : corrupt (state_in edition1 s t) ≡ false
-  pub row : (b : Model) → length b.list.sites ≡ h.count → r ≡ verdict (first_row (migrate_rows b (places_in edition2.litres t₂)))
+  pub row : (b : Model) → length b.list.sites ≡ h.count → r ≡ first_row (migrate_rows b (places_in edition2.litres t₂))
 
 -- The roll is written behind the front of the new store, and then the front.
 pub new-put : (s₂ : List ℕ) (store : Store) {roll : RollArray} {m last : List ℕ} → length store.groups ≡ 64 → length store.shares ≡ 512
@@ -121,7 +118,7 @@ module _ (s t s₂ t₂ : List ℕ) where
   pub migrate-corrupt : corrupt old ≡ true → Migrated s t s₂ t₂ (refused 0) s₂ t₂
   migrate-corrupt z = keeps (migrate-zero old fresh z)
 
-  module _ {h : Header} {gs ss : List ℕ} {list : ListArray} {r : Verdict} (o : Old s t t₂ h gs ss list r) where
+  module _ {h : Header} {gs ss : List ℕ} {list : ListArray} {r : Option ℕ} (o : Old s t t₂ h gs ss list r) where
     abbrev read : StoreRead edition1.share edition1.roll s (replicate 64 0) (replicate 512 0) h gs ss
     read = o.read
 
@@ -134,15 +131,15 @@ module _ (s t s₂ t₂ : List ℕ) where
     room : h.count ≤ places_in edition1.litres t
     room = omega (arith, intact.room, read.count, length-sites edition1.litres t)
 
-    row_is_lem : r ≡ verdict (first_row (migrate_rows (model_of old) (length fresh)))
+    row_is_lem : r ≡ first_row (migrate_rows (model_of old) (length fresh))
     row_is_lem =
         o.row (model_of old) ((held-count old o.sound).2 ∙ sym read.count)
-        ∙ ap (λ (m : ℕ). verdict (first_row (migrate_rows (model_of old) m))) (sym (length-sites edition2.litres t₂))
+        ∙ ap (λ (m : ℕ). first_row (migrate_rows (model_of old) m)) (sym (length-sites edition2.litres t₂))
 
-    pub migrate-refuses : {n : ℕ} → r ≡ Refused n → Migrated s t s₂ t₂ (refused n) s₂ t₂
+    pub migrate-refuses : {n : ℕ} → r ≡ some n → Migrated s t s₂ t₂ (refused n) s₂ t₂
     migrate-refuses {n} e = keeps (migrate-refused old fresh o.sound n (sym row_is_lem ∙ e))
 
-    module _ (e : r ≡ Passes) where
+    module _ (e : r ≡ none) where
       passed : (migrates s t t₂ ≡ record { after = migrated old fresh; reply = unbuffered done }) × (old.store.count ≤ length fresh)
       passed = migrate-passed old fresh o.sound (sym row_is_lem ∙ e)
 

@@ -1,10 +1,11 @@
 -- Laws of the widths: narrow and wide sites are the same values; and loops that take a function of each of 512 elements. Assumes nothing.
 use mathlib.Core.Path.{◌≡◌, refl, sym, ap, subst, ◌∙◌}
 use mathlib.Core.List.{List, [], ◌∷◌, map}
-use Prim.Native.Nat.{ℕ, zero, suc, ◌+◌, ◌≤◌, ◌<◌, ◌^◌}
+use Prim.Native.Nat.{ℕ, zero, suc, ◌<◌, ◌^◌}
 use native.Mathlib.Nat.{le_of_suc-le-suc, not-suc-le-zero}
 use native.Mathlib.Omega.{arith}
-use lib.ListN.{length, get_or, set, replicate, length-map, get_or-map}
+use lib.ListN.{length, get_or, length-map, get_or-map}
+use Rattle.std.proofs.lemmas.List.{same_lists, get_or_default}
 use mir.Val.{Val}
 use denote.Array.{Array, each}
 use denote.Laws.{Is}
@@ -13,9 +14,7 @@ use denote.Struct.Laws as LL
 use Rattle.density.specs.declared.Site.{Site}
 use Rattle.density.specs.Network.{no_site}
 use Rattle.table.specs.declared.Site1.{Site1}
-use Rattle.table.specs.Table.{overlay, blank}
 use Rattle.table.specs.Widths.{no_site1, widened, narrowed, LitresFit}
-use Rattle.table.proofs.Overlay.{blank-is, blank-length, overlay-none, overlay-next, overlay-all}
 use Rattle.table.specs.contracts.Site1 as T
 use Rattle.table.proofs.Site1.TheLaws as T'
 use denote.RattleType.{RattleType}
@@ -41,26 +40,12 @@ pub fit_at : (l : List Site) → LitresFit l → (i : ℕ) → i < length l → 
 unfolding LitresFit
 fit_at l h = h
 
--- after i turns of a loop over 512 elements: f of the first i stands in front, and blank places after them
-pub record Mapped {X Y : Type 0} (f : X → Y) (y : Y) (l : List X) (a : List Y) (i : ℕ) : Type 0 where
-  pub long : length l ≡ 512
-  pub is : a ≡ overlay i (map f l) (blank y)
-
-module _ {X Y : Type 0} {f : X → Y} {y : Y} {l : List X} where
-  pub mapped-begins : length l ≡ 512 → Mapped f y l (replicate 512 y) 0
-  mapped-begins e = record { long = e; is = sym (blank-is y) ∙ sym (overlay-none (map f l) (blank y)) }
-
-  pub mapped-goes : {a : List Y} {i : ℕ} {r : Y} (x : X) → Mapped f y l a i → i < 512 → r ≡ f (get_or l i x) → Mapped f y l (set a i r) (i + 1)
-  mapped-goes {a} {i} {r} x m h e =
-      record {
-        long = m.long;
-        is =
-            ap (λ (z : Y). set a i z) (e ∙ sym (get_or-map f l i x)) ∙ ap (λ (b : List Y). set b i (get_or (map f l) i (f x))) m.is
-            ∙ overlay-next (map f l) (blank y) i (f x) (omega (arith, h, m.long, length-map l f)) (omega (arith, h, blank-length y));
-      }
-
-  pub mapped-ends : {a : List Y} {i : ℕ} → Mapped f y l a i → 512 ≤ i → a ≡ map f l
-  mapped-ends {i = i} m h = m.is ∙ overlay-all (map f l) (blank y) i (omega (arith, h, m.long, length-map l f)) (omega (arith, h, blank-length y))
+-- a list with f of each element of another
+pub mapped-is : {X Y : Type 0} (f : X → Y) (x : X) (l : List X) (r : List Y) → length r ≡ length l → ((k : ℕ) → k < length l → get_or r k (f x) ≡ f (get_or l k x)) → r ≡ map f l
+mapped-is f x l r e h =
+    same_lists r (map f l) (e ∙ sym (length-map l f)) (λ k d m.
+    let n : k < length l = omega (arith, e) in
+    get_or_default r k d (f x) m ∙ h k n ∙ sym (get_or-map f l k x) ∙ get_or_default (map f l) k (f x) d (omega (arith, length-map l f)))
 
 -- a site of edition 1 as a type of the logic
 abbrev S : RattleType

@@ -1,6 +1,6 @@
 -- The depots with crews in a roll, gathered one by one. Assumes nothing.
 use mathlib.Core.Path.{◌≡◌, sym, ap, ap₂, ◌∙◌}
-use mathlib.Core.Bool.{Bool, true, false, cond, ◌&&◌}
+use mathlib.Core.Bool.{Bool, false, cond, ◌&&◌}
 use mathlib.Core.List.{List}
 use mathlib.Core.Option.{none, some}
 use Prim.Native.Nat.{ℕ, ◌+◌, ◌≤◌, ◌<◌}
@@ -20,9 +20,6 @@ roll-is roll b e = sym (ap (λ (t : Bool). set_of (enrolled (cond t (some roll.c
 
 pub enrolled-none : (roll : RollArray) → roll.there ≡ false → 0 ≡ set_of (enrolled (roll_in roll)) 64
 enrolled-none roll e = set_of-is 64 (enrolled none) (omega arith) (λ d l. has-none d) ∙ roll-is roll false e
-
-pub enrolled-some : (roll : RollArray) → roll.there ≡ true → set_of (enrolled (some roll.crews)) 64 ≡ set_of (enrolled (roll_in roll)) 64
-enrolled-some roll e = roll-is roll true e
 
 module _ (roll : List ℕ) (d : ℕ) (l : d < 64) {s : ℕ} (i : s ≡ set_of (enrolled (some roll)) d) where
   pub enrolled-takes : {t u : ℕ} → 0 < get_or roll d 0 → t ≡ set_of (has s ∪ only d) 64 → u ≡ t → u ≡ set_of (enrolled (some roll)) (d + 1)

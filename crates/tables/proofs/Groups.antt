@@ -1,16 +1,14 @@
 -- Rows 12 and 13 and the place of a depot, group by group. Assumes nothing.
 use mathlib.Core.Path.{◌≡◌, refl, sym, ap, ◌∙◌, subst}
-use mathlib.Core.Bool.{Bool, true, false, cond, not, ◌||◌, ◌&&◌, beq}
+use mathlib.Core.Bool.{Bool, true, false, not, ◌||◌, ◌&&◌, beq}
 use mathlib.Core.List.{List}
-use mathlib.Core.Option.{Option, none, some}
+use mathlib.Core.Option.{Option}
 use mathlib.Core.Logic.{⊎_elim}
 use Prim.Native.Nat.{ℕ, ◌+◌, ◌≤◌, ◌<◌, ◌^◌}
 use native.Mathlib.Numerals.{add-one}
 use native.Mathlib.Omega.{arith}
-use borrow.Author.Tests.{not-true}
 use lib.Dec.{T, eqb, ltb, eqb→eq, ltb→lt, lt→ltb, nltb→le, T_not, not_T}
 use lib.ListN.{length, get_or, set}
-use lib.Seq.{take-length}
 use Rattle.sets.specs.Sum.{when, any}
 use Rattle.sets.specs.Set.{Depots, ◌∪◌, ◌∩◌, has, set_of, is_empty, weigh}
 use Rattle.sets.proofs.Test.{T?, T-ext, eq→eqb, is_false, fails}
@@ -41,9 +39,6 @@ module _ (gs : List ℕ) where
       ap (λ (b : Bool). b || group gs k d) (ap (λ (n : ℕ). has n d) e ∙ has-set_of 64 (before gs k) d m)
       ∙ sym (ap (λ (X : Depots). X d) (before-suc gs k l))
       ∙ sym (ap (λ (n : ℕ). before gs n d) (add-one k)))
-
-  pub before-end : (k : ℕ) → k ≡ length gs → set_of (before gs k) 64 ≡ set_of (union gs) 64
-  before-end k e = ap (λ (n : ℕ). set_of (before gs n) 64) e ∙ ap (λ (l : List ℕ). set_of (union l) 64) (take-length gs)
 
   -- ---- row 12
 
@@ -122,11 +117,8 @@ pub crews-net : (l : Listing) (roll : Option (List ℕ)) (crews : List ℕ) → 
 unfolding network
 crews-net l roll crews e h d m = h d m ∙ ap (λ (r : Option (List ℕ)). crews_of r d) (sym e)
 
--- without a roll each has one; with one that row 22 does not refuse each has at most 9
+-- where row 22 does not refuse the roll, each has at most 9
 module _ (roll : RollArray) (crews : List ℕ) (h : Holds crews (crews_of (roll_in roll)) 64) where
-  pub crews-one : not roll.there ≡ true → (d : ℕ) → d < 64 → get_or crews d 0 ≡ 1
-  crews-one e d l = h d l ∙ ap (λ (b : Bool). crews_of (cond b (some roll.crews) none) d) (not-true roll.there e)
-
   pub crews-few : crews_above (roll_in roll) ≡ false → (d : ℕ) → d < 64 → get_or crews d 0 ≤ 9
   unfolding crews_above
   crews-few e d l =

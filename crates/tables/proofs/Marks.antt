@@ -5,11 +5,11 @@ use mathlib.Core.Bool.{Bool, true, false, cond, not, ◌&&◌, and-true}
 use mathlib.Core.List.{List}
 use Prim.Native.Nat.{ℕ, suc, ◌+◌, ◌-◌, ◌≤◌, ◌<◌, ◌^◌}
 use native.Mathlib.Omega.{arith}
-use lib.Dec.{eqb, eqb→eq, eqb_refl, T_not, not_T}
+use lib.Dec.{eqb, eqb→eq, eqb_refl, T_not}
 use lib.ListN.{length, get_or, set, drop}
 use lib.Seq.{drop-cons, drop-length, get_or-set_same, get_or-set_other}
 use Rattle.sets.specs.Set.{has, is_empty, lowest}
-use Rattle.sets.proofs.Test.{T?, and_r, is_false, fails, eq→eqb, cond-on, cond-off}
+use Rattle.sets.proofs.Test.{T?, and_r, is_false, passes, eq→eqb, cond-on, cond-off}
 use Rattle.sets.proofs.Set.{empty→}
 use Rattle.sets.proofs.Rest.{rest, lowest-lt, in_left, rest-is}
 use Rattle.density.specs.Plan.{place}
@@ -33,9 +33,8 @@ module _ (left : ℕ) (low : left < 2 ^ 64) (some : not (is_empty (has left) 64)
       ∙ ap (cond (has left e) k) (get_or-set_other a d e k 0 (λ z. n (eq→eqb e d z))))
       (T? (eqb e d))
 
-pub mark-end : (left : ℕ) → not (is_empty (has left) 64) ≡ false → (d k x : ℕ) → d < 64 → cond (has left d) k x ≡ x
-mark-end left none d k x l =
-    ⊎_elim (λ t. cond-off (has left d) k x (empty→ (has left) 64 t d l)) (λ n. absurd (fails _ none (not_T (is_empty (has left) 64) n))) (T? (is_empty (has left) 64))
+pub mark-end : (left : ℕ) → is_empty (has left) 64 ≡ true → (d k x : ℕ) → d < 64 → cond (has left d) k x ≡ x
+mark-end left none d k x l = cond-off (has left d) k x (empty→ (has left) 64 (passes _ none) d l)
 
 -- ---- the groups from place k on
 

@@ -15,76 +15,66 @@ use Rattle.density.specs.Rows.{first_row, plan_rows, groups_meet, groups_unliste
 use Rattle.records.specs.declared.ListArray.{ListArray}
 use Rattle.records.specs.declared.PlanArray.{PlanArray}
 use Rattle.records.specs.Values.{roll_in, listing}
-use Rattle.tables.specs.declared.Verdict.{Verdict}
-use Rattle.tables.specs.declared.Verdict.TheVariants.{Passes, Refused}
 use Rattle.tables.specs.declared.Tally.{Tally}
 use Rattle.tables.specs.declared.Form.{Form}
-use Rattle.tables.specs.Verdict.{verdict}
-use Rattle.tables.specs.Tables.{net, groups_in, shares_in, Holds, Counted, Ready, Tables, Litres, Tallied, part_of, Parts, Levels, form_rows, Kept, Formed, Small}
+use Rattle.tables.specs.Tables.{net, groups_in, shares_in, Holds, Counted, Ready, Tables, Litres, Tallied, part_of, Parts, Levels, form_rows, Kept, Small}
 use Rattle.density.proofs.Lists.{valid}
 use Rattle.tables.proofs.Arrays.{from_zero}
 use Rattle.tables.proofs.Groups.{unlisted-is, listed-is, crews-net}
 use Rattle.tables.proofs.Shares.{sizes-few}
 use Rattle.tables.proofs.Totals.{parts, parts-load}
 
--- what a verdict says of the row
-pub verdict-refused : (o : Option ℕ) (n : ℕ) → verdict o ≡ Refused n → o ≡ some n
-verdict-refused none n h = absurd (let z : ◌≡◌ {A = ℕ} 0 1 = cc in omega arith)
-verdict-refused (some m) n h = cc
-
-pub verdict-passes : (o : Option ℕ) → verdict o ≡ Passes → o ≡ none
-verdict-passes none h = refl
-verdict-passes (some m) h = absurd (let z : ◌≡◌ {A = ℕ} 0 1 = cc in omega arith)
-
-never : (n : ℕ) → Refused n ≡ Passes → ⊥
+never : (n : ℕ) → ◌≡◌ {A = Option ℕ} (some n) none → ⊥
 never n e = let z : ◌≡◌ {A = ℕ} 0 1 = cc in omega arith
 
-passed : (a b c : Bool) → verdict (cond a (some 12) (cond b (some 13) (cond c (some 14) none))) ≡ Passes → (a ≡ false) × (b ≡ false) × (c ≡ false)
+-- rows 12 to 14, by what each tests
+abbrev three : Bool → Bool → Bool → Option ℕ → Option ℕ
+three a b c later = cond a (some 12) (cond b (some 13) (cond c (some 14) later))
+
+passed : (a b c : Bool) → three a b c none ≡ none → (a ≡ false) × (b ≡ false) × (c ≡ false)
 passed true b c e = absurd (never 12 e)
 passed false true c e = absurd (never 13 e)
 passed false false true e = absurd (never 14 e)
 passed false false false e = (refl, refl, refl)
 
-refused : (a b c : Bool) (later : Option ℕ) (n : ℕ) → verdict (cond a (some 12) (cond b (some 13) (cond c (some 14) none))) ≡ Refused n
-    → verdict (cond a (some 12) (cond b (some 13) (cond c (some 14) later))) ≡ Refused n
+refused : (a b c : Bool) (later : Option ℕ) (n : ℕ) → three a b c none ≡ some n → three a b c later ≡ some n
 refused true b c later n e = e
 refused false true c later n e = e
 refused false false true later n e = e
 refused false false false later n e = absurd (never n (sym e))
 
 -- the pass over the sites says what rows 13 and 14 ask
-forms : (a b c broken : Bool) → (b ≡ false → broken ≡ c) → verdict (cond a (some 12) (cond b (some 13) (cond broken (some 14) none)))
-    ≡ verdict (cond a (some 12) (cond b (some 13) (cond c (some 14) none)))
+forms : (a b c broken : Bool) → (b ≡ false → broken ≡ c) → three a b broken none ≡ three a b c none
 forms true b c broken h = refl
 forms false true c broken h = refl
 forms false false c broken h = rw (h refl)
 
 pub form-rows : (N : Network) (gs ss : List ℕ) (listed : ℕ) (broken : Bool) → listed ≡ set_of N.listed 64 → (groups_unlisted N gs ≡ false → broken ≡ shares_broken N gs ss)
-    → verdict (first_row (form_rows gs listed broken)) ≡ verdict (first_row (take 3 (plan_rows N gs ss)))
+    → (first_row (form_rows gs listed broken)) ≡ (first_row (take 3 (plan_rows N gs ss)))
 unfolding first_row plan_rows
 form-rows N gs ss listed broken e h = rw (e, unlisted-is N gs) (forms (groups_meet gs) (groups_unlisted N gs) (shares_broken N gs ss) broken h)
 
 module _ (N : Network) (gs ss : List ℕ) where
   -- a verdict on the form says which rows do not apply, or is the verdict
-  pub form→ : verdict (first_row (take 3 (plan_rows N gs ss))) ≡ Passes → (groups_meet gs ≡ false) × (groups_unlisted N gs ≡ false) × (shares_broken N gs ss ≡ false)
+  pub form→ : (first_row (take 3 (plan_rows N gs ss))) ≡ none → (groups_meet gs ≡ false) × (groups_unlisted N gs ≡ false) × (shares_broken N gs ss ≡ false)
   unfolding first_row plan_rows
   form→ e = passed (groups_meet gs) (groups_unlisted N gs) (shares_broken N gs ss) e
 
-  pub form-refused : (n : ℕ) → verdict (first_row (take 3 (plan_rows N gs ss))) ≡ Refused n → verdict (first_row (plan_rows N gs ss)) ≡ Refused n
+  pub form-refused : (n : ℕ) → (first_row (take 3 (plan_rows N gs ss))) ≡ some n → (first_row (plan_rows N gs ss)) ≡ some n
   unfolding first_row plan_rows
   form-refused n e = refused (groups_meet gs) (groups_unlisted N gs) (shares_broken N gs ss) _ n e
 
-  module _ (form : verdict (first_row (take 3 (plan_rows N gs ss))) ≡ Passes) where
-    pub row-15 : loads_uneven N gs ss ≡ true → Refused 15 ≡ verdict (first_row (plan_rows N gs ss))
+  module _ (form : (first_row (take 3 (plan_rows N gs ss))) ≡ none) where
+    pub row-15 : loads_uneven N gs ss ≡ true → some 15 ≡ (first_row (plan_rows N gs ss))
     unfolding first_row plan_rows
     row-15 e = let f = form→ form in rw (f.0, f.1, f.2, e)
 
     module _ (even : loads_uneven N gs ss ≡ false) where
-      pub row-16 : groups_rise N gs ≡ true → Refused 16 ≡ verdict (first_row (plan_rows N gs ss))
+      pub row-16 : groups_rise N gs ≡ true → some 16 ≡ (first_row (plan_rows N gs ss))
       unfolding first_row plan_rows
       row-16 e = let f = form→ form in rw (f.0, f.1, f.2, even, e)
 
-      pub plan-passes : groups_rise N gs ≡ false → Passes ≡ verdict (first_row (plan_rows N gs ss))
+      pub plan-passes : groups_rise N gs ≡ false → none ≡ (first_row (plan_rows N gs ss))
       unfolding first_row plan_rows
       plan-passes e = let f = form→ form in rw (f.0, f.1, f.2, even, e)
 
@@ -135,26 +125,26 @@ module _ (list : ListArray) (plan : PlanArray) (r : Ready list plan) where
 pub formed : (list : ListArray) (plan : PlanArray) (n : Counted list plan) → length list.sites ≡ 512 → length plan.groups ≡ 64 → ((k : ℕ) → get_or plan.groups k 0 < 2 ^ 64)
     → (places sizes : List ℕ) → Tables list plan places sizes → (t : Tally) (ws : List ℕ) → length t.litres ≡ 64
     → (t.listed ≡ set_of (net list).listed 64) × (Ready list plan → Tallied list plan places t ws)
-    → (v : Verdict) → v ≡ verdict (first_row (form_rows (groups_in list plan) t.listed t.broken))
-    → Formed list plan (record { verdict = v; listed = t.listed; places = places; sizes = sizes; litres = t.litres }) ws
-formed list plan n wide deep low places sizes tabled t ws long found v e =
-    record {
-      verdict-is = is;
-      passed = λ p.
-          let f = form→ (net list) (groups_in list plan) (shares_in list plan) (sym is ∙ p) in
-          let y = ready list plan n wide deep low f.1 in
-          let sums = (found.1 y).sums ((found.1 y).broken ∙ f.2) in
-          record {
-            ready = y;
-            shares = f.2;
-            listed = found.0;
-            tables = tabled;
-            litres = (long, sums.0);
-            wholes = sums.1;
-          };
-    }
+    → (v : Option ℕ) → v ≡ first_row (form_rows (groups_in list plan) t.listed t.broken)
+    → (v ≡ first_row (take 3 (plan_rows (net list) (groups_in list plan) (shares_in list plan))))
+    × (v ≡ none → Kept list plan (record { listed = t.listed; places = places; sizes = sizes; litres = t.litres }) ws)
+formed list plan n wide deep low places sizes tabled t ws long found v e = (
+  is,
+  λ p.
+      let f = form→ (net list) (groups_in list plan) (shares_in list plan) (sym is ∙ p) in
+      let y = ready list plan n wide deep low f.1 in
+      let sums = (found.1 y).sums ((found.1 y).broken ∙ f.2) in
+      record {
+        ready = y;
+        shares = f.2;
+        listed = found.0;
+        tables = tabled;
+        litres = (long, sums.0);
+        wholes = sums.1;
+      },
+)
   where
-    is : v ≡ verdict (first_row (take 3 (plan_rows (net list) (groups_in list plan) (shares_in list plan))))
+    is : v ≡ first_row (take 3 (plan_rows (net list) (groups_in list plan) (shares_in list plan)))
     is = e ∙ form-rows (net list) (groups_in list plan) (shares_in list plan) t.listed t.broken found.0 (λ u. (found.1 (ready list plan n wide deep low u)).broken)
 
 -- what the scaled loads are summed from, and what row 15 is tried on

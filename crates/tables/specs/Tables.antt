@@ -1,5 +1,6 @@
 -- What the check keeps of a list and a plan while it tries rows 14 to 16.
-use Rattle.std.specs.Prelude.{◌≡◌, Bool, false, not, List, [], ◌∷◌, ℕ, ◌+◌, ◌-◌, ◌*◌, ◌≤◌, ◌<◌, ◌^◌, T, eqb, length, get_or, take}
+use Rattle.std.specs.Prelude.{◌≡◌, Bool, false, not, List, [], ◌∷◌, ℕ, ◌+◌, ◌-◌, ◌*◌, ◌≤◌, ◌<◌, ◌^◌, T, IfOk, eqb, length, get_or, take}
+use Rattle.std.specs.declared.result.Result.{Result}
 use Rattle.sets.specs.Sum.{when}
 use Rattle.sets.specs.Set.{set_of}
 use Rattle.density.specs.declared.Site.{Site}
@@ -9,10 +10,10 @@ use Rattle.density.specs.Rows.{Row, row, first_row, groups_meet, shares_broken, 
 use Rattle.records.specs.declared.ListArray.{ListArray}
 use Rattle.records.specs.declared.PlanArray.{PlanArray}
 use Rattle.records.specs.Values.{listing, plan_in}
+use Rattle.records.specs.declared.refusal.Refusal.{Refusal}
+use Rattle.records.specs.Refusals.{refusal_of}
 use Rattle.tables.specs.declared.Tally.{Tally}
 use Rattle.tables.specs.declared.Form.{Form}
-use Rattle.tables.specs.declared.Verdict.TheVariants.{Passes}
-use Rattle.tables.specs.Verdict.{verdict}
 
 -- the network of a list, and the groups and shares of a plan for it
 abbrev pub net : ListArray → Network
@@ -113,10 +114,10 @@ pub record Kept (list : ListArray) (plan : PlanArray) (r : Form) (ws : List ℕ)
   pub litres : (length r.litres ≡ 64) × Litres list r.places r.litres
   pub wholes : Wholes list plan ws
 
--- the verdict of rows 12 to 14, and what it leaves where it passes
-pub record Formed (list : ListArray) (plan : PlanArray) (r : Form) (ws : List ℕ) : Type 0 where
-  pub verdict-is : r.verdict ≡ verdict (first_row (take 3 (plan_rows (net list) (groups_in list plan) (shares_in list plan))))
-  pub passed : r.verdict ≡ Passes → Kept list plan r ws
+-- the row of 12 to 14 that refuses, or what they leave where they pass
+pub record Formed (list : ListArray) (plan : PlanArray) (r : Result Form Refusal) (ws : List ℕ) : Type 0 where
+  pub refusal : refusal_of r ≡ first_row (take 3 (plan_rows (net list) (groups_in list plan) (shares_in list plan)))
+  pub passed : IfOk r (λ f. Kept list plan f ws)
 
 -- site i: its depots' places, w × q and s
 pub record Entry (N : Network) (gs ss : List ℕ) (i : ℕ) (s : Site) (first second all part : ℕ) : Type 0 where

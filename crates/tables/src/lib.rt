@@ -9,16 +9,10 @@ ghost use Rattle.records.specs.Values.{roll_in, listing};
 ghost use Rattle.tables.specs.Tables.{net, Holds, Placed, Litres};
 
 use density::Site;
-use records::{ListArray, RollArray, roll};
-
-// What the check answers: a refusal is the row's number.
-#[derive(Clone, Copy)]
-pub enum Verdict {
-    Passes,
-    Refused(u8),
-}
+use records::{ListArray, RollArray};
 
 // What one pass over the sites finds: the listed depots, whether a share breaks a rule, and, where none does, W of each group.
+// Kept: `broken` is a test's result that is read beside the set, and `litres` is filled either way.
 #[derive(Clone, Copy)]
 pub struct Tally {
     pub listed: u64,
@@ -29,7 +23,6 @@ pub struct Tally {
 // What rows 12 to 14 leave to the later rows: the listed depots, the place of each depot, and q and W of each group.
 #[derive(Clone, Copy)]
 pub struct Form {
-    pub verdict: Verdict,
     pub listed: u64,
     pub places: [u8; 64],
     pub sizes: [u64; 64],
@@ -52,12 +45,10 @@ pub fn enrolled(roll: RollArray) -> u64
     if !roll.there {
         return set;
     }
-    let mut d: u8 = 0;
-    while d < 64 {
-        if 0 < roll.crews[d as usize] {
-            set = sets::with(set, d);
+    for (d, crews) in roll.crews.iter().enumerate() {
+        if 0 < *crews {
+            set = sets::with(set, d as u8);
         }
-        d += 1;
     }
     set
 }
@@ -67,13 +58,9 @@ pub fn listed(list: ListArray) -> u64
     requires { (list.count ≤ 512) × T (in_range (listing list)) }
     ensures { result ≡ set_of (net list).listed 64 }
 {
-    let roll = list.roll;
-    let mut set = enrolled(roll);
-    let mut i: usize = 0;
-    while i < list.count {
-        let s = list.sites[i];
-        set = name(set, s);
-        i += 1;
+    let mut set = enrolled(list.roll);
+    for s in &list.sites[..list.count] {
+        set = name(set, *s);
     }
     set
 }
@@ -83,11 +70,8 @@ fn mark(places: &mut [u8], set: u64, k: u8)
     requires { length places.old ≡ 64 }
     ensures { Holds places.new (λ d. cond (has set d) k (get_or places.old d 0)) 64 }
 {
-    let mut left = set;
-    while !sets::is_empty(left) {
-        let d = sets::lowest(left);
+    for d in sets::depots(set) {
         places[d as usize] = k;
-        left = sets::without(left, sets::single(d));
     }
 }
 
@@ -98,9 +82,7 @@ pub fn places(groups: &[u64]) -> [u8; 64]
 {
     let n = groups.len();
     let mut r = [n as u8; 64];
-    let mut k = n;
-    while 0 < k {
-        k -= 1;
+    for k in (0..n).rev() {
         mark(&mut r, groups[k], k as u8);
     }
     r
@@ -114,10 +96,8 @@ pub fn crews(roll: RollArray) -> [u64; 64]
     if !roll.there {
         return r;
     }
-    let mut d: usize = 0;
-    while d < 64 {
-        r[d] = roll::crews_at(roll, d as u8) as u64;
-        d += 1;
+    for (d, crews) in roll.crews.iter().enumerate() {
+        r[d] = *crews as u64;
     }
     r
 }
@@ -130,10 +110,8 @@ pub fn sizes(roll: RollArray, groups: &[u64]) -> [u64; 64]
     let weights = crews(roll);
     let ones = !roll.there;
     let mut r = [0u64; 64];
-    let mut k: usize = 0;
-    while k < groups.len() {
-        r[k] = sets::weight(&weights, ones, groups[k]);
-        k += 1;
+    for (k, group) in groups.iter().enumerate() {
+        r[k] = sets::weight(&weights, ones, *group);
     }
     r
 }
@@ -142,10 +120,7 @@ pub fn sizes(roll: RollArray, groups: &[u64]) -> [u64; 64]
 pub fn later(a: u8, b: u8) -> u8
     ensures { result ≡ max a b }
 {
-    if a < b {
-        return b;
-    }
-    a
+    a.max(b)
 }
 
 // The litres of a site.
@@ -161,13 +136,9 @@ pub fn litres(list: ListArray, places: &[u8]) -> [u64; 64]
     ensures { Litres list places.now result }
 {
     let mut r = [0u64; 64];
-    let mut i: usize = 0;
-    while i < list.count {
-        let s = list.sites[i];
-        let w = litres_of(s);
+    for s in &list.sites[..list.count] {
         let k = later(places[s.first as usize], places[s.second as usize]) as usize;
-        r[k] = r[k] + w;
-        i += 1;
+        r[k] += litres_of(*s);
     }
     r
 }

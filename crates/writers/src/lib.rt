@@ -8,11 +8,11 @@ ghost use Rattle.records.specs.Write.{place, roll_bytes, list_bytes, plan_bytes,
 ghost use Rattle.records.specs.Files.{files, fitted_both, WrittenBoth};
 
 use density::Site;
-use records::{Edition, ListArray, PlanArray, RollArray, Wrote, WroteBoth};
+use records::{Edition, Lengths, ListArray, PlanArray, Refusal, RollArray};
 use writers_numbers::{crews, number_at, records, sites};
 
 // Writes a plan of some groups and shares at the front of `out`; the shares go into what remains of it behind the groups.
-pub fn plan_of(e: Edition, groups: &[u64], shares: &[u64], out: &mut [u8]) -> Wrote
+pub fn plan_of(e: Edition, groups: &[u64], shares: &[u64], out: &mut [u8]) -> Result<usize, Refusal>
     requires { (e.share ≤ 8) × (length groups.now ≤ 64) × (length shares.now ≤ 512) }
     ensures { Written (plan_bytes e (record { groups = groups.now; shares = shares.now })) out.old result out.new }
 {
@@ -22,18 +22,18 @@ pub fn plan_of(e: Edition, groups: &[u64], shares: &[u64], out: &mut [u8]) -> Wr
     let at = 5 + 10 * g;
     let end = at + (2 + w) * n;
     if out.len() < end {
-        return Wrote::Refused(20);
+        return Err(Refusal::BufferShort);
     }
     number_at(out, 0, 2, e.mark.plan);
     number_at(out, 2, 1, g as u64);
     number_at(out, 3, 2, n as u64);
     records(&mut out[5..], e.mark.group, 8, groups);
     records(&mut out[at..], e.mark.share, w, shares);
-    Wrote::Length(end)
+    Ok(end)
 }
 
 // Writes a plan for `n` sites at the front of `out`.
-pub fn plan(e: Edition, p: PlanArray, n: usize, out: &mut [u8]) -> Wrote
+pub fn plan(e: Edition, p: PlanArray, n: usize, out: &mut [u8]) -> Result<usize, Refusal>
     requires { (e.share ≤ 8) × (p.count ≤ 64) × (n ≤ 512) }
     ensures { Written (plan_bytes e (plan_in p n)) out.old result out.new }
 {
@@ -66,7 +66,13 @@ fn roll_size(k: RollArray) -> usize
 }
 
 // Writes a list of the first `n` sites, and its roll, at the front of `out`.
-fn list_of(e: Edition, table: [Site; 512], n: usize, k: RollArray, out: &mut [u8]) -> Wrote
+fn list_of(
+    e: Edition,
+    table: [Site; 512],
+    n: usize,
+    k: RollArray,
+    out: &mut [u8],
+) -> Result<usize, Refusal>
     requires { (e.litres ≤ 8) × (n ≤ 512) }
     ensures { Written (list_bytes e (record { sites = take n table; roll = roll_in k })) out.old result out.new }
 {
@@ -75,17 +81,17 @@ fn list_of(e: Edition, table: [Site; 512], n: usize, k: RollArray, out: &mut [u8
     let end = 4 + size * n;
     let total = end + roll_size(k);
     if out.len() < total {
-        return Wrote::Refused(20);
+        return Err(Refusal::BufferShort);
     }
     number_at(out, 0, 2, e.mark.list);
     number_at(out, 2, 2, n as u64);
     sites(e, table, n, &mut out[4..]);
     roll(e, k, out, end);
-    Wrote::Length(total)
+    Ok(total)
 }
 
 // Writes a list at the front of `out`.
-pub fn list(e: Edition, l: ListArray, out: &mut [u8]) -> Wrote
+pub fn list(e: Edition, l: ListArray, out: &mut [u8]) -> Result<usize, Refusal>
     requires { (e.litres ≤ 8) × (l.count ≤ 512) }
     ensures { Written (list_bytes e (listing l)) out.old result out.new }
 {
@@ -95,7 +101,13 @@ pub fn list(e: Edition, l: ListArray, out: &mut [u8]) -> Wrote
 }
 
 // Writes a list at the front of `out` and a plan for it at the front of `other`; nothing where either is too short. The list's buffer is looked at first.
-pub fn both(e: Edition, l: ListArray, p: PlanArray, out: &mut [u8], other: &mut [u8]) -> WroteBoth
+pub fn both(
+    e: Edition,
+    l: ListArray,
+    p: PlanArray,
+    out: &mut [u8],
+    other: &mut [u8],
+) -> Result<Lengths, Refusal>
     requires { (e.litres ≤ 8) × (e.share ≤ 8) × (l.count ≤ 512) × (p.count ≤ 64) }
     ensures { WrittenBoth (fitted_both (files e (listing l) (plan_in p l.count)) out.old other.old) out.old other.old result out.new other.new }
 {
@@ -104,12 +116,15 @@ pub fn both(e: Edition, l: ListArray, p: PlanArray, out: &mut [u8], other: &mut 
     let first = 4 + (4 + e.litres) * n + roll_size(k);
     let second = 5 + 10 * p.count + (2 + e.share) * n;
     if out.len() < first {
-        return WroteBoth::Refused(20);
+        return Err(Refusal::BufferShort);
     }
     if other.len() < second {
-        return WroteBoth::Refused(20);
+        return Err(Refusal::BufferShort);
     }
-    list(e, l, out);
-    plan(e, p, n, other);
-    WroteBoth::Lengths(first, second)
+    let _ = list(e, l, out);
+    let _ = plan(e, p, n, other);
+    Ok(Lengths {
+        list: first,
+        plan: second,
+    })
 }

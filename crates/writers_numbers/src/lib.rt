@@ -10,7 +10,8 @@ ghost use Rattle.records.specs.Format.{site_size};
 use density::Site;
 use records::{Edition, number};
 
-// Puts the two, four, six or eight low bytes of `x` at a place of `out`, without a loop.
+// Puts the two, four, six or eight low bytes of `x` at a place of `out`.
+// Kept: a function for each width of an edition, so that none is written by a loop at run time.
 fn put_two(out: &mut [u8], at: usize, x: u64)
     requires { at + 2 ≤ length out.old }
     ensures { out.new ≡ place at (le 2 x) out.old }
@@ -77,11 +78,7 @@ pub fn crews(out: &mut [u8], at: usize, bytes: [u8; 64])
     requires { at + 64 ≤ length out.old }
     ensures { out.new ≡ place at bytes out.old }
 {
-    let mut d: usize = 0;
-    while d < 64 {
-        out[at + d] = bytes[d];
-        d += 1;
-    }
+    out[at..at + 64].copy_from_slice(&bytes);
 }
 
 // Writes records of a mark and a number of `w` bytes, one for each number.
@@ -89,12 +86,10 @@ pub fn records(out: &mut [u8], mark: u64, w: usize, xs: &[u64])
     requires { (2 + w) * length xs.now ≤ length out.old }
     ensures { out.new ≡ onto (flat_map (mark_bytes mark w) xs.now) out.old }
 {
-    let mut i = 0;
     let mut at = 0;
-    while i < xs.len() {
-        record_at(out, at, mark, w, xs[i]);
+    for x in xs {
+        record_at(out, at, mark, w, *x);
         at += 2 + w;
-        i += 1;
     }
 }
 
@@ -102,7 +97,7 @@ pub fn records(out: &mut [u8], mark: u64, w: usize, xs: &[u64])
 pub fn body_of(x: Site) -> u64
     ensures { (w : ℕ) → le (2 + w) result ≡ le 1 x.first ++ (le 1 x.second ++ le w x.litres) }
 {
-    (x.first as u64) + 256 * (x.second as u64) + 65536 * (x.litres as u64)
+    u64::from(x.first) + 256 * u64::from(x.second) + 65536 * u64::from(x.litres)
 }
 
 // Puts a site's record at a place of `out`.
@@ -120,12 +115,9 @@ pub fn sites(e: Edition, table: [Site; 512], n: usize, out: &mut [u8])
     ensures { out.new ≡ onto (flat_map (site_bytes e) (take n table)) out.old }
 {
     let size = 4 + e.litres;
-    let mut i = 0;
     let mut at = 0;
-    while i < n {
-        let x = table[i];
-        site_at(e, out, at, x);
+    for x in &table[..n] {
+        site_at(e, out, at, *x);
         at += size;
-        i += 1;
     }
 }

@@ -1,9 +1,5 @@
-use Prim.Native.Nat.{◌-◌}
 use Rattle.attempt.specs.Lay.{Aiming}
 use Rattle.attempt.proofs.aim.Given as goal
 
 abbrev pub invariant-loop-d : goal.invariant-loop-d
 invariant-loop-d l = Aiming l.crews l.set l.w l.target l.rank l.d
-
-abbrev pub decreases-loop-d : goal.decreases-loop-d
-decreases-loop-d l = 64 - l.d

@@ -1,10 +1,6 @@
-use Prim.Native.Nat.{◌-◌}
 use Rattle.sets.specs.Set.{has}
 use Rattle.attempt.specs.Lay.{Laying}
 use Rattle.attempt.proofs.lay.Given as goal
 
 abbrev pub invariant-loop-i : goal.invariant-loop-i
 invariant-loop-i l = Laying l.ends l.litres (has l.set) (has l.before) l.q l.initial.share l.total l.share l.load l.i
-
-abbrev pub decreases-loop-i : goal.decreases-loop-i
-decreases-loop-i l = 512 - l.i

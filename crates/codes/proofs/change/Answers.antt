@@ -10,8 +10,8 @@ use Rattle.codes.proofs.change.Goals as goal
 pub returns-then-not-is_store : goal.returns-then-not-is_store
 returns-then-not-is_store c = did-not (sym c.is_store.ensures ∙ c.if-not-is_store.true) no_bytes
 
-pub change-a-requires : goal.change-a-requires
-change-a-requires c = (c.requires.0, sym c.is_store.ensures ∙ c.if-not-is_store.false, c.requires.1)
+pub change-requires : goal.change-requires
+change-requires c = (c.requires.0, sym c.is_store.ensures ∙ c.if-not-is_store.false, c.requires.1)
 
 pub returns : goal.returns
-returns c = did (sym c.is_store.ensures ∙ c.if-not-is_store.false) (c.change-a.ensures [] [] no_bytes) (read_back (omega arith) ∙ ap (λ (o : Coded). o.code) c.outcome.ensures)
+returns c = did (sym c.is_store.ensures ∙ c.if-not-is_store.false) (c.change.ensures [] [] no_bytes) (read_back (omega arith) ∙ ap (λ (o : Coded). o.code) c.outcome.ensures)

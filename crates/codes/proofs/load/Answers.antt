@@ -10,8 +10,8 @@ use Rattle.codes.proofs.load.Goals as goal
 pub returns-then-not-is_store : goal.returns-then-not-is_store
 returns-then-not-is_store c = did-not (sym c.is_store.ensures ∙ c.if-not-is_store.true) (λ i. (c.type_inv.list i).fits)
 
-pub load-a-requires : goal.load-a-requires
-load-a-requires c = (c.requires, sym c.is_store.ensures ∙ c.if-not-is_store.false)
+pub load-requires : goal.load-requires
+load-requires c = (c.requires, sym c.is_store.ensures ∙ c.if-not-is_store.false)
 
 pub returns : goal.returns
-returns c = did (sym c.is_store.ensures ∙ c.if-not-is_store.false) (c.load-a.ensures []) (read_back (omega arith) ∙ ap (λ (o : Coded). o.code) c.outcome.ensures)
+returns c = did (sym c.is_store.ensures ∙ c.if-not-is_store.false) (c.load.ensures []) (read_back (omega arith) ∙ ap (λ (o : Coded). o.code) c.outcome.ensures)

@@ -10,8 +10,8 @@ use Rattle.codes.proofs.propose.Goals as goal
 pub returns-then-not-is_store : goal.returns-then-not-is_store
 returns-then-not-is_store c = did-not (sym c.is_store.ensures ∙ c.if-not-is_store.true) (λ i. (c.type_inv.plan i).fits)
 
-pub propose-a-requires : goal.propose-a-requires
-propose-a-requires c = (c.requires, sym c.is_store.ensures ∙ c.if-not-is_store.false)
+pub propose-requires : goal.propose-requires
+propose-requires c = (c.requires, sym c.is_store.ensures ∙ c.if-not-is_store.false)
 
 pub returns : goal.returns
-returns c = did (sym c.is_store.ensures ∙ c.if-not-is_store.false) (c.propose-a.ensures []) (read_back (omega arith) ∙ ap (λ (o : Coded). o.code) c.outcome.ensures)
+returns c = did (sym c.is_store.ensures ∙ c.if-not-is_store.false) (c.propose.ensures []) (read_back (omega arith) ∙ ap (λ (o : Coded). o.code) c.outcome.ensures)

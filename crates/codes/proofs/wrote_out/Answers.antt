@@ -8,11 +8,11 @@ use Rattle.codes.proofs.wrote_out.Goals as goal
 pub returns-then-not-is_store : goal.returns-then-not-is_store
 returns-then-not-is_store c = not_written (sym c.is_store.ensures ∙ c.if-not-is_store.true) no_bytes
 
-pub look-a-requires : goal.look-a-requires
-look-a-requires c = (c.requires.0, sym c.is_store.ensures ∙ c.if-not-is_store.false, c.requires.1)
+pub look-requires : goal.look-requires
+look-requires c = (c.requires.0, sym c.is_store.ensures ∙ c.if-not-is_store.false, c.requires.1)
 
 pub written-requires : goal.written-requires
-written-requires c = length-held (c.look-a.ensures [] no_bytes) c.well_formed.1.1.1.1.0.1
+written-requires c = length-held (c.look.ensures [] no_bytes) c.well_formed.1.1.1.1.0.1
 
 pub returns : goal.returns
-returns c = wrote-out (sym c.is_store.ensures ∙ c.if-not-is_store.false) (c.look-a.ensures [] no_bytes) (read_back c.written.type_inv ∙ c.written.ensures)
+returns c = wrote-out (sym c.is_store.ensures ∙ c.if-not-is_store.false) (c.look.ensures [] no_bytes) (read_back c.written.type_inv ∙ c.written.ensures)

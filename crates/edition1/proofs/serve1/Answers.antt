@@ -4,16 +4,13 @@ use lib.Dec.{lit≤}
 use Rattle.store.specs.Widths.{Fitting}
 use Rattle.edition1.proofs.Edition1Widths.{widened-serves}
 use Rattle.edition1.proofs.serve1.Goals as goal
-use Rattle.edition1.proofs.serve1.Goals.{After-edition1, After-serve-d}
 
 pub serve-d-requires : goal.serve-d-requires
 serve-d-requires c = subst Fitting (sym c.edition1.ensures) (lit≤ tt, lit≤ tt)
 
 pub returns : goal.returns
 returns c =
-    let s = (goal.at.returns c).After-serve-d in
-    let w = (goal.at.After-serve-d s).After-edition1 in
     let a = c.args in
-    widened-serves a.store a.sites a.places a.request a.input.now a.buffer.now _ w.edition1.ensures w.widen_store-wide.ensures
-    w.widen_all-all.ensures w.widen_request-asked.ensures s.serve-d.ensures c.narrow_store-store.ensures
+    widened-serves a.store a.sites a.places a.request a.input.now a.buffer.now _ c.edition1.ensures c.from-wide.ensures
+    c.widen_all-all.ensures c.from-asked.ensures c.serve-d.ensures c.narrow_store.ensures
     c.narrow_first-sites.ensures

@@ -1,4 +1,5 @@
 -- `entries1::call1` meets its contract. Assumes nothing.
+use lib.Dec.{lit<}
 use Rattle.std.proofs.Common.{◌≤◌, length, take, arith, sym, ap, subst, refl, ◌∙◌}
 use Rattle.records.specs.Format.{edition1}
 use Rattle.table.specs.Widths.{no_site1, widened}
@@ -9,11 +10,12 @@ use Rattle.serve.specs.Stored.{Among}
 use Rattle.serve.proofs.StoredSteps.{among, seen-steps}
 use Rattle.entries1.proofs.call1.Goals as goal
 
-pub store1-requires : goal.store1-requires
-store1-requires c =
+pub store-requires : goal.store-requires
+store-requires c =
     let d = c.serve1-d.result in
     let some_of : Among d.n c.stored1-places.result = subst (Among d.n) (sym c.stored1-places.ensures) (among (request_of1 c.args.request) c.args.store.count d.n) in
-    (some_of.ordered, omega (arith, some_of.first, c.serve1-d.ensures.1.few), omega (arith, some_of.first, c.serve1-d.ensures.1.room))
+    -- the places' size is a usize; and the places are some of those that there are
+    (lit< tt, (some_of.ordered, omega (arith, some_of.first, c.serve1-d.ensures.1.few), omega (arith, some_of.first, c.serve1-d.ensures.1.room)))
 
 -- what is stored makes the table the step's
 pub returns : goal.returns
@@ -21,8 +23,8 @@ returns c =
     let d = c.serve1-d.result in
     let few : d.n ≤ length d.sites = omega (arith, c.serve1-d.ensures.1.few, c.serve1-d.type_inv) in (
       c.serve1-d.ensures.0,
-      rw (c.store1.ensures, c.stored1-places.ensures)
+      rw (c.store.ensures, c.stored1-places.ensures)
           (seen-steps widened edition1 (store_of1 c.args.store) c.args.table.now d.sites d.n c.args.input.now c.args.buffer.now few c.serve1-d.ensures.1.room (request_of1 c.args.request) (store_of1 d.store)
           (record { answer = told d.answer; buffer = c.serve1-d.new.buffer })
-          (c.serve1-d.ensures.1.steps c.args.table.now refl (ap (take (length c.args.table.now)) c.held1-sites.ensures ∙ held-stands no_site1 c.args.table.now))),
+          (c.serve1-d.ensures.1.steps c.args.table.now refl (ap (take (length c.args.table.now)) c.held-sites.ensures ∙ held-stands no_site1 c.args.table.now))),
     )

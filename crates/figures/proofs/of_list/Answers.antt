@@ -18,9 +18,6 @@ room groups few deep = omega arith
 used : {n : ℕ} (groups : List ℕ) → n ≤ 64 → length groups ≡ 64 → length (take n groups) ≤ 64
 used groups few deep = omega (arith, length-take-le _ groups (room groups few deep))
 
-pub slice_bounds-sets-end : goal.slice_bounds-sets-end
-slice_bounds-sets-end c = room c.make_plan-plan.result.groups c.make_plan-plan.ensures.few (search rules)
-
 pub slice_bounds-groups-end : goal.slice_bounds-groups-end
 slice_bounds-groups-end c = sym (length-take-le _ _ (room c.make_plan-plan.result.groups c.make_plan-plan.ensures.few (search rules)))
 

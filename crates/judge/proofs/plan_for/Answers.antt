@@ -2,49 +2,40 @@
 use mathlib.Core.Path.{◌≡◌, sym, ap, ◌∙◌}
 use borrow.Author.Rules.{rules}
 use lib.ListN.{length}
-use Rattle.records.specs.declared.PlanRead.{PlanRead}
+use Rattle.std.proofs.lemmas.Result.{err_from_is_err_and}
 use Rattle.records.specs.Values.{Plan}
 use Rattle.records.specs.Outcome.{passed}
 use Rattle.records.specs.Answer.{plan_read, plan_array}
 use Rattle.records.specs.Format.{read_plan}
-use Rattle.records.proofs.Answers.{plan-counted, plan-refused as layout_was}
+use Rattle.records.proofs.Answers.{plan-passed as laid-out, plan-refused as layout-was}
 use Rattle.judge.proofs.PlanFor.{layout-refused, plan-few, plan-refused, plan-passed}
 use Rattle.judge.proofs.plan_for.Goals as goal
-use Rattle.judge.proofs.plan_for.Goals.{After-plan_row-verdict, After-read-read, In_default, Start}
+use Rattle.judge.proofs.plan_for.Goals.{In_ok-laid, Start}
 
 wide : (s : Start) → length s.args.list.sites ≡ 512
 wide s = search rules
 
 -- the plan that was read
-laid : (p : In_default) → let read = (goal.at.In_default p).After-read-read in let s = (goal.at.After-read-read read).Start in (x : Plan) × (read_plan s.args.e s.args.list.count s.args.plan.now ≡ passed x) × (read.read-read.result.plan ≡ plan_array x)
+laid : (p : In_ok-laid) → let s = (goal.at.In_ok-laid p).Start in
+    (x : Plan) × (read_plan s.args.e s.args.list.count s.args.plan.now ≡ passed x) × (p.in_ok-laid.laid ≡ plan_array x)
 laid p =
-    let read = (goal.at.In_default p).After-read-read in
-    let s = (goal.at.After-read-read read).Start in
-    let o = read_plan s.args.e s.args.list.count s.args.plan.now in
-    let l = plan-counted o (sym p.in_default.is ∙ ap (λ (x : PlanRead). x.answer) read.read-read.ensures) in
-    (l.0, l.1, ap (λ (x : PlanRead). x.plan) read.read-read.ensures ∙ l.3)
+    let s = (goal.at.In_ok-laid p).Start in
+    laid-out (read_plan s.args.e s.args.list.count s.args.plan.now) p.in_ok-laid.ensures
 
-pub read-read-requires : goal.read-read-requires
-read-read-requires c = let s = (goal.at.read-read-requires c).Start in (s.requires.0, s.requires.1)
+pub read-requires : goal.read-requires
+read-requires c = let s = (goal.at.read-requires c).Start in (s.requires.0, s.requires.1)
 
-pub returns-in-Refused : goal.returns-in-Refused
-returns-in-Refused c =
-    let told = c in
-    let read = told in
-    let s = read in
-    let o = read_plan s.args.e s.args.list.count s.args.plan.now in
-    let refused = layout_was o (sym told.in-Refused.is ∙ ap (λ (x : PlanRead). x.answer) read.read-read.ensures) in
-    c.no_plan.ensures
-    ∙ sym (ap plan_read (layout-refused s.args.e s.args.list s.args.plan.now s.requires.1 (wide (goal.at.returns-in-Refused s).Start) _ refused))
+pub returns-in_err-laid : goal.returns-in_err-laid
+returns-in_err-laid c =
+    let s = (goal.at.returns-in_err-laid c).Start in
+    let p = err_from_is_err_and c.from_residual.result c.from_residual.ensures.1 in
+    rw (p.1, p.2)
+    (sym (ap plan_read (layout-refused s.args.e s.args.list s.args.plan.now s.requires.1 (wide s) _ (layout-was (read_plan s.args.e s.args.list.count s.args.plan.now) c.in_err-laid.ensures))))
 
-pub enum_told-1 : goal.enum_told-1
-enum_told-1 c = search rules
-
-pub plan_row-verdict-requires : goal.plan_row-verdict-requires
-plan_row-verdict-requires c =
-    let p = (goal.at.plan_row-verdict-requires c).In_default in
-    let read = (goal.at.In_default p).After-read-read in
-    let s = (goal.at.After-read-read read).Start in
+pub plan_row-requires : goal.plan_row-requires
+plan_row-requires c =
+    let p = (goal.at.plan_row-requires c).In_ok-laid in
+    let s = (goal.at.In_ok-laid p).Start in
     let l = laid p in
     record {
       sites = s.requires.1;
@@ -52,25 +43,18 @@ plan_row-verdict-requires c =
       range = s.requires.2;
     }
 
-pub returns-in-Refused-verdict : goal.returns-in-Refused-verdict
-returns-in-Refused-verdict c =
-    let told = c in
-    let judged = told in
-    let p = judged in
-    let read = p in
-    let s = read in
-    let l = laid (goal.at.returns-in-Refused-verdict p).In_default in
-    let refused = sym judged.plan_row-verdict.ensures ∙ told.in-Refused-verdict.is in
-    c.no_plan-in-Refused-verdict.ensures
-    ∙ sym (ap plan_read (plan-refused s.args.e s.args.list s.args.plan.now s.requires.1 (wide (goal.at.returns-in-Refused-verdict s).Start) l.0 l.1 _ l.2 _ refused))
+pub returns-in_err-plan_row : goal.returns-in_err-plan_row
+returns-in_err-plan_row c =
+    let l = (goal.at.returns-in_err-plan_row c).In_ok-laid in
+    let s = (goal.at.In_ok-laid l).Start in
+    let x = laid l in
+    let p = err_from_is_err_and c.from_residual-in_err-plan_row.result c.from_residual-in_err-plan_row.ensures.1 in
+    rw (p.1, p.2)
+    (sym (ap plan_read (plan-refused s.args.e s.args.list s.args.plan.now s.requires.1 (wide s) x.0 x.1 _ x.2 _ (sym c.in_err-plan_row.ensures))))
 
 pub returns : goal.returns
 returns c =
-    let judged = (goal.at.returns c).After-plan_row-verdict in
-    let p = (goal.at.After-plan_row-verdict judged).In_default in
-    let read = (goal.at.In_default p).After-read-read in
-    let s = (goal.at.After-read-read read).Start in
-    let l = laid p in
-    let passes = sym judged.plan_row-verdict.ensures ∙ c.in_default-verdict.is in
-    read.read-read.ensures
-    ∙ ap plan_read (l.1 ∙ sym (plan-passed s.args.e s.args.list s.args.plan.now s.requires.1 (wide s) l.0 l.1 _ l.2 passes))
+    let l = (goal.at.returns c).In_ok-laid in
+    let s = (goal.at.In_ok-laid l).Start in
+    let x = laid l in
+    ap passed x.2 ∙ sym (ap plan_read (plan-passed s.args.e s.args.list s.args.plan.now s.requires.1 (wide s) x.0 x.1 _ x.2 (sym c.in_ok-plan_row.ensures)))

@@ -1,11 +1,7 @@
 -- `layout::site_in` meets its contract. Assumes nothing.
-use Prim.Native.Nat.{◌+◌}
-use mathlib.Core.Path.{refl, ◌∙◌}
-use native.Mathlib.Omega.{arith}
-use lib.ListN.{drop}
+use Rattle.std.proofs.Common.{◌+◌, drop, refl, ◌∙◌, arith}
 use Rattle.layout.proofs.Places.{place_read, place-small}
 use Rattle.layout.proofs.site_in.Goals as goal
-use Rattle.layout.proofs.site_in.Goals.{After-shared_slice_known-1, Start}
 
 pub site_of-requires : goal.site_of-requires
 site_of-requires c =
@@ -14,7 +10,5 @@ site_of-requires c =
 
 pub returns : goal.returns
 returns c =
-    let k = (goal.at.returns c).After-shared_slice_known-1 in
-    let s = (goal.at.After-shared_slice_known-1 k).Start in
-    let a = s.args in
-    c.site_of.ensures ∙ place_read a.w (2 + a.w) a.at a.t.now refl (λ i. (k.shared_slice_known-1.given i).fits) s.requires.1 c.field.ensures
+    let a = c.args in
+    c.site_of.ensures ∙ place_read a.w (2 + a.w) a.at a.t.now refl (λ i. (c.type_inv.t i).fits) c.requires.1 c.field.ensures

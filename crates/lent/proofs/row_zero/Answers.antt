@@ -1,24 +1,11 @@
 -- `lent::row_zero` meets its contract. Assumes nothing.
-use mathlib.Core.Path.{refl}
-use borrow.Author.Rules.{rules}
+use mathlib.Core.Path.{sym, ◌∙◌}
 use Rattle.held_state.specs.Held.{State}
 use Rattle.held_state.specs.Values.{Stands}
 use Rattle.lent.specs.Lent.{state_in}
-use Rattle.lent.proofs.Served.{sized-is, stands}
+use Rattle.lent.proofs.Served.{stands}
 use Rattle.lent.proofs.row_zero.Goals as goal
-use Rattle.lent.proofs.row_zero.Goals.{After-roll-1, After-shared_slice_known-2-1, After-store_in-h, After-summary-known, Start}
-
-pub store_in-h-requires : goal.store_in-h-requires
-store_in-h-requires c =
-    let f = (goal.at.store_in-h-requires c).After-shared_slice_known-2-1 in
-    let s = (goal.at.After-shared_slice_known-2-1 f).Start in
-    (s.requires.0.1, sized-is s.args.e s.args.store.now s.requires.1, refl, refl)
-
-abbrev read : After-summary-known → After-store_in-h
-read c = let l = (goal.at.After-summary-known c).After-roll-1 in (goal.at.After-roll-1 l).After-store_in-h
-
-abbrev start : After-summary-known → Start
-start c = let f = (goal.at.After-summary-known c).After-shared_slice_known-2-1 in (goal.at.After-shared_slice_known-2-1 f).Start
+use Rattle.lent.proofs.row_zero.Goals.{After-summary-known}
 
 abbrev state : After-summary-known → State
 state c = let a = c.args in state_in a.e a.store.now a.table.now
@@ -32,13 +19,12 @@ standing c =
     let k = c.summary-known.ensures in
     stands a.e a.store.now a.table.now c.store_in-h.ensures c.list_in-list.ensures k.0 k.1 k.2
 
-pub is_corrupt-requires : goal.is_corrupt-requires
-is_corrupt-requires c =
-    let k = (goal.at.is_corrupt-requires c).After-summary-known in
-    let l = k.list_in-list in
-    (search rules, search rules, k.summary-known.ensures.3 l.result l.ensures.0 l.ensures.2)
+pub returns-then-is_corrupt-clause-zero : goal.returns-then-is_corrupt-clause-zero
+returns-then-is_corrupt-clause-zero c =
+    let k = (goal.at.returns-then-is_corrupt-clause-zero c).After-summary-known in
+    sym c.if-is_corrupt.true ∙ c.is_corrupt.ensures (state k) (standing k)
 
-pub returns : goal.returns
-returns c =
-    let k = (goal.at.returns c).After-summary-known in
-    (k.store_in-h.ensures.count, k.store_in-h.ensures.roll, k.summary-known.ensures.0, c.is_corrupt.ensures (state k) (standing k))
+pub returns-else-is_corrupt-clause-zero : goal.returns-else-is_corrupt-clause-zero
+returns-else-is_corrupt-clause-zero c =
+    let k = (goal.at.returns-else-is_corrupt-clause-zero c).After-summary-known in
+    sym c.if-is_corrupt.false ∙ c.is_corrupt.ensures (state k) (standing k)

@@ -1,30 +1,23 @@
 -- `maker::make_by` meets its contract. Assumes nothing.
-use native.Mathlib.Omega.{arith}
+use Rattle.std.proofs.lemmas.Result.{err_from_is_err_and}
 use Rattle.maker.specs.Planned.{Planned}
-use Rattle.maker.proofs.Made.{in-range, few-sites, made, refusal-made}
+use Rattle.maker.proofs.Made.{in-range, made, refusal-made}
 use Rattle.maker.proofs.make_by.Goals as goal
 
-pub row_of-requires : goal.row_of-requires
-row_of-requires c = (c.in_default.field-0, c.in_default.is)
+pub returns-in_err-sites : goal.returns-in_err-sites
+returns-in_err-sites c =
+    let p = err_from_is_err_and c.from_residual.result c.from_residual.ensures.1 in
+    rw (p.1, p.2) (refusal-made c.args.e c.args.list.now _ c.args.out.now c.in_err-sites.ensures)
 
-pub returns-in_default : goal.returns-in_default
-returns-in_default c =
-    let a = c.args in
-    let list = c.read-found in
-    refusal-made a.e a.list.now list.result c.row_of.result a.out.now list.ensures c.row_of.ensures
-
-pub make_plan-p-requires : goal.make_plan-p-requires
-make_plan-p-requires c =
-    let a = c.args in
-    in-range a.e a.list.now c.read-found.result c.in-Count.n c.read-found.ensures c.in-Count.is
+pub make_plan-plan-requires : goal.make_plan-plan-requires
+make_plan-plan-requires c = in-range c.args.e c.args.list.now c.in_ok-sites.sites c.in_ok-sites.ensures
 
 pub plan-requires : goal.plan-requires
 plan-requires c =
-    let a = c.args in
-    let plan : Planned _ _ = c.make_plan-p.ensures in
-    (c.requires.1, plan.few, omega (arith, few-sites a.e a.list.now c.read-found.result c.in-Count.n c.read-found.ensures c.in-Count.is))
+    let plan : Planned _ _ = c.make_plan-plan.ensures in
+    (c.requires.1, plan.few, (in-range c.args.e c.args.list.now c.in_ok-sites.sites c.in_ok-sites.ensures).0)
 
 pub returns : goal.returns
 returns c =
     let a = c.args in
-    made a.e a.list.now c.read-found.result c.in-Count.n c.read-found.ensures c.in-Count.is c.make_plan-p.result a.out.now _ _ c.requires.2 (λ i. (c.type_inv.list i).fits) c.make_plan-p.ensures c.plan.ensures
+    made a.e a.list.now c.in_ok-sites.sites c.in_ok-sites.ensures c.make_plan-plan.result a.out.now _ _ c.requires.2 (λ i. (c.type_inv.list i).fits) c.make_plan-plan.ensures c.plan.ensures

@@ -1,11 +1,7 @@
 use mathlib.Core.Path.{◌≡◌}
-use Prim.Native.Nat.{◌-◌, ◌≤◌}
 use Rattle.sets.specs.Set.{set_of}
 use Rattle.ranks.proofs.Gathering.{unreached_set}
 use Rattle.ranks.proofs.unreached.Given as goal
 
 abbrev pub invariant-loop-d : goal.invariant-loop-d
-invariant-loop-d l = (l.set ≡ set_of (unreached_set l.rank) l.d) × (l.d ≤ 64)
-
-abbrev pub decreases-loop-d : goal.decreases-loop-d
-decreases-loop-d l = 64 - l.d
+invariant-loop-d l = l.set ≡ set_of (unreached_set l.rank) l.d

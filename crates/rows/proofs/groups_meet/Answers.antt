@@ -3,26 +3,26 @@ use mathlib.Core.Path.{sym, ◌∙◌}
 use native.Mathlib.Omega.{arith}
 use Rattle.sets.proofs.Set.{any-start, any-more}
 use Rattle.tables.proofs.Groups.{before-start, before_more, meets_at, meets-is, meet-here, meet-none}
-use borrow.Author.Rules.{rules}
 use Rattle.rows.proofs.groups_meet.Goals as goal
 
-pub loop-k-init : goal.loop-k-init
-loop-k-init c = (search rules, any-start _, before-start c.args.groups.now)
+pub loop-group-init : goal.loop-group-init
+loop-group-init c = (any-start _, before-start c.args.groups.now)
 
 pub returns-then-meets : goal.returns-then-meets
 returns-then-meets c =
     let gs = c.args.groups.now in
-    let at = c.loop-k in
-    sym (meet-here gs at.k c.loop-k-test.true (sym (meets-is gs at.k at.seen at.invariant.2) ∙ sym c.meets.ensures ∙ c.if-meets.true))
+    let l = c.loop-group in
+    let k = l.group-index in
+    sym (meet-here gs k c.loop-group-test.true (sym (meets-is gs k l.seen l.invariant.1) ∙ sym c.meets.ensures ∙ c.if-meets.true))
 
-pub loop-k-preserved : goal.loop-k-preserved
-loop-k-preserved c =
+pub loop-group-preserved : goal.loop-group-preserved
+loop-group-preserved c =
     let gs = c.args.groups.now in
-    let at = c.loop-k in (
-      search rules,
-      any-more (meets_at gs) at.k at.invariant.1 (sym (meets-is gs at.k at.seen at.invariant.2) ∙ sym c.meets.ensures ∙ c.if-meets.false),
-      c.union-seen.ensures ∙ before_more gs at.k at.seen c.loop-k-test.true at.invariant.2,
+    let l = c.loop-group in
+    let k = l.group-index in (
+      any-more (meets_at gs) k l.invariant.0 (sym (meets-is gs k l.seen l.invariant.1) ∙ sym c.meets.ensures ∙ c.if-meets.false),
+      c.union-seen.ensures ∙ before_more gs k l.seen c.loop-group-test.true l.invariant.1,
     )
 
 pub returns : goal.returns
-returns c = sym (meet-none c.args.groups.now c.loop-k.k (omega arith) c.loop-k.invariant.1)
+returns c = sym (meet-none c.args.groups.now c.loop-group.group-index (omega arith) c.loop-group.invariant.0)

@@ -1,6 +1,4 @@
 use mathlib.Core.Path.{◌≡◌}
-use Prim.Native.Nat.{◌-◌, ◌≤◌}
-use lib.ListN.{length}
 use mathlib.Core.Bool.{false}
 use Rattle.sets.specs.Sum.{any}
 use Rattle.sets.specs.Set.{set_of}
@@ -8,8 +6,5 @@ use Rattle.density.specs.Plan.{before}
 use Rattle.tables.proofs.Groups.{meets_at}
 use Rattle.rows.proofs.groups_meet.Given as goal
 
-abbrev pub invariant-loop-k : goal.invariant-loop-k
-invariant-loop-k l = (l.k ≤ length l.groups) × (any (meets_at l.groups) l.k ≡ false) × (l.seen ≡ set_of (before l.groups l.k) 64)
-
-abbrev pub decreases-loop-k : goal.decreases-loop-k
-decreases-loop-k l = length l.groups - l.k
+abbrev pub invariant-loop-group : goal.invariant-loop-group
+invariant-loop-group l = (any (meets_at l.groups) l.group-index ≡ false) × (l.seen ≡ set_of (before l.groups l.group-index) 64)

@@ -1,53 +1,26 @@
--- `script::decimal` meets its contract. The invariant: the text is read as v followed by the text from i on.
--- Assumes nothing.
-use mathlib.Core.Path.{sym, ◌∙◌}
-use native.Mathlib.Omega.{arith}
-use Rattle.script.proofs.Numbers.{of_none, of_some, from_end, from_next, from-letter, from-large}
+-- `script::decimal` meets its contract. Assumes nothing.
+use Rattle.std.proofs.Common.{sym, ◌∙◌, arith}
+use Rattle.script.proofs.Numbers.{from_end, from_next, from-letter, from-large}
 use Rattle.script.proofs.decimal.Goals as goal
+use Rattle.script.proofs.decimal.Goals.{then-d-gt9-via-then-d-gt9, then-d-gt9-via-else-d-gt9+then-d-most, then-d-gt9-via-else-d-gt9+else-d-most+then-v-most}
 
-pub returns-then-text-eq0 : goal.returns-then-text-eq0
-returns-then-text-eq0 c = sym (of_none c.args.most c.args.text.now (omega arith))
+pub returns-then-d-gt9-clause-value : goal.returns-then-d-gt9-clause-value
+returns-then-d-gt9-clause-value c =
+    let l = c.loop-b in
+    let text = c.args.text.now in
+    let most = c.args.most in
+    sym (l.invariant.1 ∙ elim c.then-d-gt9.branch [
+      | then-d-gt9-via-then-d-gt9 w ↦ from-letter most l.v l.b-index _ text (omega arith) c.digit-d.ensures (omega arith)
+      | then-d-gt9-via-else-d-gt9+then-d-most w ↦ from-large most l.v l.b-index _ text (omega arith) c.digit-d.ensures (omega arith) (omega arith)
+      | then-d-gt9-via-else-d-gt9+else-d-most+then-v-most w ↦ from-large most l.v l.b-index _ text (omega arith) c.digit-d.ensures (omega arith) (omega arith)
+    ])
 
-pub loop-i-init : goal.loop-i-init
-loop-i-init c = (omega arith, omega arith, of_some c.args.most c.args.text.now (omega arith))
+pub loop-b-preserved : goal.loop-b-preserved
+loop-b-preserved c =
+    let l = c.loop-b in
+    (omega arith, l.invariant.1 ∙ from_next c.args.most l.v l.b-index _ c.args.text.now (omega arith) c.digit-d.ensures (omega arith) (omega arith))
 
-pub bounds-text-i : goal.bounds-text-i
-bounds-text-i c = omega arith
-
-pub digit-d-requires : goal.digit-d-requires
-digit-d-requires c = tt
-
-pub overflow_cast-d : goal.overflow_cast-d
-overflow_cast-d c = omega arith
-
-pub returns-then-d-gt9 : goal.returns-then-d-gt9
-returns-then-d-gt9 c =
-    sym (c.loop-i.invariant.2 ∙ from-letter c.args.most c.loop-i.v c.loop-i.i c.digit-d.result c.args.text.now (omega arith) c.digit-d.ensures (omega arith))
-
-pub returns-then-d-most : goal.returns-then-d-most
-returns-then-d-most c =
-    sym (c.loop-i.invariant.2 ∙ from-large c.args.most c.loop-i.v c.loop-i.i c.digit-d.result c.args.text.now (omega arith) c.digit-d.ensures (omega arith) (omega arith))
-
-pub returns-then-v-most : goal.returns-then-v-most
-returns-then-v-most c =
-    sym (c.loop-i.invariant.2 ∙ from-large c.args.most c.loop-i.v c.loop-i.i c.digit-d.result c.args.text.now (omega arith) c.digit-d.ensures (omega arith) (omega arith))
-
-pub overflow_mul-v : goal.overflow_mul-v
-overflow_mul-v c = omega arith
-
-pub overflow_add-v : goal.overflow_add-v
-overflow_add-v c = omega arith
-
-pub overflow_add-i : goal.overflow_add-i
-overflow_add-i c = omega arith
-
-pub loop-i-smaller : goal.loop-i-smaller
-loop-i-smaller c = omega arith
-
-pub loop-i-preserved : goal.loop-i-preserved
-loop-i-preserved c =
-    (omega arith, omega arith, c.loop-i.invariant.2 ∙ from_next c.args.most c.loop-i.v c.loop-i.i c.digit-d.result c.args.text.now (omega arith) c.digit-d.ensures (omega arith) (omega arith))
-
-pub returns : goal.returns
-returns c =
-    sym (c.loop-i.invariant.2 ∙ from_end c.args.most c.loop-i.v c.loop-i.i c.args.text.now (omega arith))
+pub returns-clause-value : goal.returns-clause-value
+returns-clause-value c =
+    let l = c.loop-b in
+    sym (l.invariant.1 ∙ from_end c.args.most l.v l.b-index c.args.text.now (omega arith))

@@ -1,34 +1,26 @@
 -- `serve::load` meets its contract. Assumes nothing.
-use mathlib.Core.Path.{sym, ap, ap₂, ◌∙◌}
-use Prim.Native.Nat.{ℕ}
+use mathlib.Core.Path.{ap, ◌∙◌}
+use Rattle.std.specs.declared.result.Result.TheVariants.{Ok}
 use Rattle.records.specs.declared.ListArray.{ListArray}
-use Rattle.records.specs.declared.ListRead.{ListRead}
 use Rattle.records.specs.Format.{read_list}
-use Rattle.records.proofs.Answers.{list_counted, list-refused}
+use Rattle.records.proofs.Answers.{list-passed, list-refused}
 use Rattle.store.specs.declared.Answer.TheVariants as of
+use Rattle.store.specs.declared.Decision.{Decision}
 use Rattle.store.specs.State.{bare}
 use Rattle.serve.proofs.ServeRules.{load-refused, load_read}
 use Rattle.serve.proofs.load.Goals as goal
-use Rattle.serve.proofs.load.Goals.{After-list-1}
 
-pub returns-in-Count : goal.returns-in-Count
-returns-in-Count c = λ buffer.
-    let listed = (goal.at.returns-in-Count c).After-list-1 in
-    let a = listed in
-    let x = a in
-    let s = x in
-    let o = read_list s.args.e s.args.places s.args.input.now in
-    let l = list_counted o (sym a.in-Count.is ∙ ap (λ (x : ListRead). x.answer) x.read-read.ensures) in
-    load_read s.args.store s.args.sites s.args.places s.args.e s.args.input.now buffer _ l.0 l.1
-    (c.without_plan.ensures
-    ∙ ap₂ (λ (n : ℕ) (y : ListArray). record { answer = of.Done; store = bare n y.roll; sites = y.sites; n = n }) (sym l.2)
-    (ap (λ (x : ListRead). x.list) x.read-read.ensures ∙ l.3))
+-- what is decided of a list that was read
+abbrev decision : ListArray → Decision
+decision y = record { answer = Ok of.Done; store = bare y.count y.roll; sites = y.sites; n = y.count }
 
-pub returns-in-Refused : goal.returns-in-Refused
-returns-in-Refused c = λ buffer.
-    let a = c in
-    let x = a in
-    let s = x in
-    let o = read_list s.args.e s.args.places s.args.input.now in
-    load-refused s.args.store s.args.sites s.args.places s.args.e s.args.input.now buffer _ _
-    (list-refused o (sym a.in-Refused.is ∙ ap (λ (x : ListRead). x.answer) x.read-read.ensures)) c.refuse.ensures
+pub returns-in-Ok : goal.returns-in-Ok
+returns-in-Ok c = λ buffer.
+    let a = c.args in
+    let l = list-passed (read_list a.e a.places a.input.now) c.in-Ok.ensures in
+    load_read a.store a.sites a.places a.e a.input.now buffer _ l.0 l.1 (c.without_plan.ensures ∙ ap decision l.2)
+
+pub returns-in-Err : goal.returns-in-Err
+returns-in-Err c = λ buffer.
+    let a = c.args in
+    load-refused a.store a.sites a.places a.e a.input.now buffer _ _ (list-refused (read_list a.e a.places a.input.now) c.in-Err.ensures) c.refuse.ensures

@@ -6,17 +6,6 @@ use Rattle.split.proofs.split.Goals as goal
 pub loop-before-init : goal.loop-before-init
 loop-before-init c = λ N ok h. making-begins N c.requires.begun
 
-pub offset_bounds-stack-top : goal.offset_bounds-stack-top
-offset_bounds-stack-top c = omega (arith, (here c.requires.tables c.loop-before.invariant).stacked.low)
-
-pub bounds-stack-top : goal.bounds-stack-top
-bounds-stack-top c =
-    let m = here c.requires.tables c.loop-before.invariant in
-    omega (arith, m.stacked.low, m.stacked.wide)
-
-pub weight-q-requires : goal.weight-q-requires
-weight-q-requires c = record { weights_len = (c.requires.tables.crew, c.requires.tables.most-crews); d_value = c.requires.d_value.0 }
-
 pub attempt-dense-requires : goal.attempt-dense-requires
 attempt-dense-requires c =
     turn-stage c.requires.tables (here c.requires.tables c.loop-before.invariant) c.loop-before-test.true c.requires.d_value.1 c.without-set.ensures c.weight-q.ensures
@@ -36,19 +25,11 @@ overflow_add-n c =
 
 pub loop-before-smaller-then-dense-set : goal.loop-before-smaller-then-dense-set
 loop-before-smaller-then-dense-set c =
-    finish-less c.requires.tables c.loop-before.invariant c.loop-before-test.true c.without-set.ensures c.weight-q.ensures c.attempt-dense.ensures c.attempt-dense.type_inv c.if-dense-set.true c.below-top.ensures
+    finish-less c.requires.tables c.loop-before.invariant c.loop-before-test.true c.without-set.ensures c.weight-q.ensures c.attempt-dense.ensures c.attempt-dense.type_inv c.if-dense-set.true c.saturating_sub-top.ensures
 
 pub loop-before-preserved-then-dense-set : goal.loop-before-preserved-then-dense-set
 loop-before-preserved-then-dense-set c =
-    turn-finish c.requires.tables c.loop-before.invariant c.loop-before-test.true c.without-set.ensures c.weight-q.ensures c.attempt-dense.ensures c.attempt-dense.type_inv c.if-dense-set.true c.below-top.ensures
-
-pub overflow_add-top : goal.overflow_add-top
-overflow_add-top c =
-    omega (arith, (here c.requires.tables c.loop-before.invariant).stacked.low)
-
-pub offset_bounds-stack-top-else-dense-set : goal.offset_bounds-stack-top-else-dense-set
-offset_bounds-stack-top-else-dense-set c =
-    omega (arith, turn_low c.requires.tables c.loop-before.invariant c.loop-before-test.true c.without-set.ensures c.weight-q.ensures c.attempt-dense.ensures c.attempt-dense.type_inv c.if-dense-set.false c.union.ensures)
+    turn-finish c.requires.tables c.loop-before.invariant c.loop-before-test.true c.without-set.ensures c.weight-q.ensures c.attempt-dense.ensures c.attempt-dense.type_inv c.if-dense-set.true c.saturating_sub-top.ensures
 
 pub bounds-stack-top-else-dense-set : goal.bounds-stack-top-else-dense-set
 bounds-stack-top-else-dense-set c =
@@ -61,18 +42,6 @@ loop-before-smaller c =
 pub loop-before-preserved : goal.loop-before-preserved
 loop-before-preserved c =
     turn-split c.requires.tables c.loop-before.invariant c.loop-before-test.true c.without-set.ensures c.weight-q.ensures c.attempt-dense.ensures c.attempt-dense.type_inv c.if-dense-set.false c.union.ensures
-
-pub shape_of-stack : goal.shape_of-stack
-shape_of-stack c =
-    omega (arith, (here c.requires.tables c.loop-before.invariant).stacked.wide, c.requires.begun.wide)
-
-pub shape_of-share : goal.shape_of-share
-shape_of-share c =
-    omega (arith, (here c.requires.tables c.loop-before.invariant).shares.size, c.requires.begun.shares.size)
-
-pub shape_of-groups : goal.shape_of-groups
-shape_of-groups c =
-    omega (arith, (here c.requires.tables c.loop-before.invariant).places, c.requires.begun.places)
 
 pub returns : goal.returns
 returns c = making-ends c.requires.tables c.loop-before.invariant c.loop-before-test.false

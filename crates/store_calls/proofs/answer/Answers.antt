@@ -1,45 +1,43 @@
 -- `store_calls::answer` meets its contract. Assumes nothing.
-use mathlib.Core.Path.{◌≡◌, refl, sym, ap, ◌∙◌}
+use mathlib.Core.Path.{◌≡◌, refl, sym, ◌∙◌}
 use mathlib.Core.Bool.{true, false}
 use Prim.Native.Nat.{ℕ}
 use native.Mathlib.Omega.{arith}
-use borrow.Author.Tests.{not-true, not-false}
 use lib.ListN.{length, take}
 use lib.Seq.{length-take-le}
-use Rattle.tables.specs.declared.Verdict.TheVariants.{Passes}
+use Rattle.std.proofs.lemmas.Result.{err_from_is_err_and}
 use Rattle.tables.specs.Tables.{lent_plan, Kept}
 use Rattle.held_state.specs.Held.{State, corrupt}
-use Rattle.held_state.specs.Values.{Stands, refuses}
+use Rattle.held_state.specs.Values.{Stands}
 use Rattle.store.specs.declared.Request.{Request}
 use Rattle.store.specs.declared.Request.TheVariants.{Load, Change, Add, Propose, Share, Depot, Difference, Written, AtLeast, ListWritten}
 use Rattle.store.specs.Trace.{Question, ReadsOnly}
 use Rattle.store_calls.proofs.Questions.{zero-told, wants-told, share-told, depot-told, difference-told, written-told, at-least-told, list-told}
 use Rattle.store_calls.proofs.answer.Goals as goal
-use Rattle.store_calls.proofs.answer.Goals.{Else-not-known, In_default}
+use Rattle.store_calls.proofs.answer.Goals.{In-Some, In_ok-held}
 
 -- row 0 has been tried, and does not refuse
-abbrev Standing : In_default → State → Type 0
+abbrev Standing : In_ok-held → State → Type 0
 Standing told x = Stands x told.args.list told.args.known told.args.groups.now told.args.shares.now
 
-passes : (told : In_default) → told.examine-f.result.verdict ≡ Passes
-passes told = told.in_default.is
+intact : (told : In_ok-held) (x : State) → Standing told x → corrupt x ≡ false
+intact told x st = sym (told.in_ok-held.ensures.zero x st)
 
-intact : (told : In_default) (x : State) → Standing told x → corrupt x ≡ false
-intact told x st = sym (told.examine-f.ensures.zero x st) ∙ ap refuses (passes told)
+-- a plan is held, and its tables
+tabled : (p : In-Some) → (p.args.known.held ≡ true) × Kept p.args.list (lent_plan p.args.known.grouped p.args.groups.now p.args.shares.now) p.in-Some.form p.examine.new.wholes
+tabled p = rw p.in-Some.is at (goal.at.In-Some p).In_ok-held.in_ok-held.ensures.kept
 
--- a plan is held
-held : (p : Else-not-known) → p.args.known.held ≡ true
-held p = not-false _ p.if-not-known.false
+held : (p : In-Some) → p.args.known.held ≡ true
+held p = (tabled p).0
 
--- its tables
-kept : (p : Else-not-known) → Kept p.args.list (lent_plan p.args.known.grouped p.args.groups.now p.args.shares.now) p.examine-f.result p.examine-f.new.wholes
-kept p = p.examine-f.ensures.kept (passes (goal.at.Else-not-known p).In_default) (held p)
+kept : (p : In-Some) → Kept p.args.list (lent_plan p.args.known.grouped p.args.groups.now p.args.shares.now) p.in-Some.form p.examine.new.wholes
+kept p = (tabled p).1
 
 -- the groups and the shares of the plan that is written out
-groups-length : (p : Else-not-known) → length (take p.args.known.grouped p.args.groups.now) ≡ p.args.known.grouped
+groups-length : (p : In-Some) → length (take p.args.known.grouped p.args.groups.now) ≡ p.args.known.grouped
 groups-length p = length-take-le _ _ (omega (arith, p.requires.1, (kept p).ready.counted.groups))
 
-shares-length : (p : Else-not-known) → length (take p.args.list.count p.args.shares.now) ≡ p.args.list.count
+shares-length : (p : In-Some) → length (take p.args.list.count p.args.shares.now) ≡ p.args.list.count
 shares-length p = length-take-le _ _ (omega (arith, p.requires.2, (kept p).ready.counted.sites))
 
 -- a call that only reads is a question, or the list is to be written out
@@ -68,79 +66,80 @@ no_other Written q h1 h2 h3 h4 h5 = h4 refl
 no_other (AtLeast m) q h1 h2 h3 h4 h5 = h5 m refl
 no_other ListWritten q h1 h2 h3 h4 h5 = q
 
-pub returns-in-Refused : goal.returns-in-Refused
-returns-in-Refused c = λ x input e st.
-    zero-told x (record { request = c.args.request; input = input; buffer = c.args.buffer.now }) c.requires.4
-    (sym (c.examine-f.ensures.zero x st) ∙ ap refuses c.in-Refused.is)
+pub returns-in_err-held : goal.returns-in_err-held
+returns-in_err-held c = λ x input e st.
+    let p = err_from_is_err_and c.from_residual.result c.from_residual.ensures.1 in
+    rw (p.1, p.2, c.in_err-held.ensures.row)
+    (zero-told x (record { request = c.args.request; input = input; buffer = c.args.buffer.now }) c.requires.4 (sym (c.in_err-held.ensures.zero x st)))
 
 pub list-requires : goal.list-requires
-list-requires c = (omega (arith, c.requires.0.0), c.examine-f.ensures.few (passes (goal.at.list-requires c).In_default))
+list-requires c = (omega (arith, c.requires.0.0), (goal.at.list-requires c).In_ok-held.in_ok-held.ensures.few)
 
 pub returns-in-ListWritten : goal.returns-in-ListWritten
 returns-in-ListWritten c = λ x input e st.
-    list-told st (intact (goal.at.returns-in-ListWritten c).In_default x st) (record { request = c.args.request; input = input; buffer = c.args.buffer.now }) c.in-ListWritten.is
+    list-told st (intact (goal.at.returns-in-ListWritten c).In_ok-held x st) (record { request = c.args.request; input = input; buffer = c.args.buffer.now }) c.in-ListWritten.is _
     (rw (← e) at c.list.ensures) c.wrote_told.ensures
 
-pub returns-then-not-known : goal.returns-then-not-known
-returns-then-not-known c = λ x input e st.
-    wants-told x (record { request = c.args.request; input = input; buffer = c.args.buffer.now }) (asks-otherwise c.args.request c.requires.4 c.in_default-request.not-ListWritten)
-    (intact (goal.at.returns-then-not-known c).In_default x st) (sym st.held ∙ not-true _ c.if-not-known.true)
+pub returns-in_default-held : goal.returns-in_default-held
+returns-in_default-held c = λ x input e st.
+    wants-told x (record { request = c.args.request; input = input; buffer = c.args.buffer.now }) (asks-otherwise c.args.request c.requires.4 c.in_default.not-ListWritten)
+    (intact (goal.at.returns-in_default-held c).In_ok-held x st) (sym st.held ∙ (rw c.in_default-held.is at (goal.at.returns-in_default-held c).In_ok-held.in_ok-held.ensures.kept))
 
 pub share_told-requires : goal.share_told-requires
 share_told-requires c =
-    let k = kept (goal.at.share_told-requires c).Else-not-known in
+    let k = kept (goal.at.share_told-requires c).In-Some in
     (omega (arith, c.requires.2, k.ready.counted.sites), omega (arith, k.wholes.0, k.ready.counted.sites))
 
 pub depot_told-requires : goal.depot_told-requires
-depot_told-requires c = (_, _, _, kept (goal.at.depot_told-requires c).Else-not-known)
+depot_told-requires c = (_, _, _, kept (goal.at.depot_told-requires c).In-Some)
 
 pub difference_told-requires : goal.difference_told-requires
-difference_told-requires c = (_, _, _, kept (goal.at.difference_told-requires c).Else-not-known)
+difference_told-requires c = (_, _, _, kept (goal.at.difference_told-requires c).In-Some)
 
 pub slice_bounds-plan_of-end : goal.slice_bounds-plan_of-end
-slice_bounds-plan_of-end c = sym (groups-length (goal.at.slice_bounds-plan_of-end c).Else-not-known)
+slice_bounds-plan_of-end c = sym (groups-length (goal.at.slice_bounds-plan_of-end c).In-Some)
 
 pub slice_bounds-plan_of-end-in-Written : goal.slice_bounds-plan_of-end-in-Written
-slice_bounds-plan_of-end-in-Written c = sym (shares-length (goal.at.slice_bounds-plan_of-end-in-Written c).Else-not-known)
+slice_bounds-plan_of-end-in-Written c = sym (shares-length (goal.at.slice_bounds-plan_of-end-in-Written c).In-Some)
 
 pub plan_of-requires : goal.plan_of-requires
 plan_of-requires c =
-    let p = (goal.at.plan_of-requires c).Else-not-known in
+    let p = (goal.at.plan_of-requires c).In-Some in
     let k = kept p in
     (p.requires.0.1, omega (arith, groups-length p, k.ready.counted.groups), omega (arith, shares-length p, k.ready.counted.sites))
 
 pub slice_bounds-at_least-end : goal.slice_bounds-at_least-end
-slice_bounds-at_least-end c = sym (groups-length (goal.at.slice_bounds-at_least-end c).Else-not-known)
+slice_bounds-at_least-end c = sym (groups-length (goal.at.slice_bounds-at_least-end c).In-Some)
 
 pub at_least-requires : goal.at_least-requires
-at_least-requires c = (_, _, _, kept (goal.at.at_least-requires c).Else-not-known, refl)
+at_least-requires c = (_, _, _, kept (goal.at.at_least-requires c).In-Some, refl)
 
 pub returns-in-Share : goal.returns-in-Share
 returns-in-Share c = λ x input e st.
-    let p = (goal.at.returns-in-Share c).Else-not-known in
-    share-told st (intact (goal.at.returns-in-Share c).In_default x st) (held p) (kept p) input _ _ _ _ c.in-Share.is c.share_told.ensures
+    let p = (goal.at.returns-in-Share c).In-Some in
+    share-told st (intact (goal.at.returns-in-Share c).In_ok-held x st) (held p) (kept p) input _ _ _ _ c.in-Share.is c.share_told.ensures
 
 pub returns-in-Depot : goal.returns-in-Depot
 returns-in-Depot c = λ x input e st.
-    let p = (goal.at.returns-in-Depot c).Else-not-known in
-    depot-told st (intact (goal.at.returns-in-Depot c).In_default x st) (held p) (kept p) input _ _ _ _ c.in-Depot.is (c.depot_told.ensures _ _ _ (kept p))
+    let p = (goal.at.returns-in-Depot c).In-Some in
+    depot-told st (intact (goal.at.returns-in-Depot c).In_ok-held x st) (held p) (kept p) input _ _ _ _ c.in-Depot.is (c.depot_told.ensures _ _ _ (kept p))
 
 pub returns-in-Difference : goal.returns-in-Difference
 returns-in-Difference c = λ x input e st.
-    let p = (goal.at.returns-in-Difference c).Else-not-known in
-    difference-told st (intact (goal.at.returns-in-Difference c).In_default x st) (held p) (kept p) input _ _ _ _ _ c.in-Difference.is (c.difference_told.ensures _ _ _ (kept p))
+    let p = (goal.at.returns-in-Difference c).In-Some in
+    difference-told st (intact (goal.at.returns-in-Difference c).In_ok-held x st) (held p) (kept p) input _ _ _ _ _ c.in-Difference.is (c.difference_told.ensures _ _ _ (kept p))
 
 pub returns-in-Written : goal.returns-in-Written
 returns-in-Written c = λ x input e st.
-    let p = (goal.at.returns-in-Written c).Else-not-known in
-    written-told st (intact (goal.at.returns-in-Written c).In_default x st) (held p) (kept p) input _ _ _ _ _ e c.in-Written.is c.plan_of.ensures c.wrote_told-in-Written.ensures
+    let p = (goal.at.returns-in-Written c).In-Some in
+    written-told st (intact (goal.at.returns-in-Written c).In_ok-held x st) (held p) (kept p) input _ _ _ _ _ _ e c.in-Written.is c.plan_of.ensures c.wrote_told-in-Written.ensures
 
 pub returns-in-AtLeast : goal.returns-in-AtLeast
 returns-in-AtLeast c = λ x input e st.
-    let p = (goal.at.returns-in-AtLeast c).Else-not-known in
-    at-least-told st (intact (goal.at.returns-in-AtLeast c).In_default x st) (held p) (kept p) input _ _ _ _ _ c.in-AtLeast.is refl (c.at_least.ensures _ _ _ (kept p) refl)
+    let p = (goal.at.returns-in-AtLeast c).In-Some in
+    at-least-told st (intact (goal.at.returns-in-AtLeast c).In_ok-held x st) (held p) (kept p) input _ _ _ _ _ c.in-AtLeast.is refl (c.at_least.ensures _ _ _ (kept p) refl)
 
-pub returns-in_default-request-2 : goal.returns-in_default-request-2
-returns-in_default-request-2 c =
-    let other = c.in_default-request-2 in
-    absurd (no_other c.args.request (asks-otherwise c.args.request c.requires.4 c.in_default-request.not-ListWritten) other.not-Share other.not-Depot other.not-Difference other.not-Written other.not-AtLeast)
+pub returns-in_default-request : goal.returns-in_default-request
+returns-in_default-request c =
+    let other = c.in_default-request in
+    absurd (no_other c.args.request (asks-otherwise c.args.request c.requires.4 c.in_default.not-ListWritten) other.not-Share other.not-Depot other.not-Difference other.not-Written other.not-AtLeast)

@@ -8,10 +8,18 @@ use mir.Syntax.{w64}
 use mir.Val.{SFits}
 use mir.ValLaws.{to_z-of_z}
 use Rattle.sets.proofs.Test.{passes}
+use Rattle.std.specs.declared.result.Result.{Result}
+use Rattle.std.specs.declared.result.Result.TheVariants.{Ok}
+use Rattle.records.specs.declared.refusal.Refusal.{Refusal}
+use Rattle.store.specs.declared.Answer.{Answer}
 use Rattle.store.specs.declared.Answer.TheVariants as of
 use Rattle.store_calls.proofs.Questions.{kept-has}
 use Rattle.store_calls.proofs.difference_told.Goals as goal
 use Rattle.store_calls.proofs.difference_told.Goals.{Else-not-contains, Else-not-contains-2, Start}
+
+-- a difference, answered
+abbrev told-of : ℤ → ℕ → Result Answer Refusal
+told-of z n = Ok (of.Difference z n)
 
 pub returns-then-not-contains : goal.returns-then-not-contains
 returns-then-not-contains c = λ list plan ws k.
@@ -44,7 +52,7 @@ returns c = λ list plan ws k.
     let s = (goal.at.Else-not-contains first).Start in
     let x = c.difference_of-x.ensures list plan ws k in
     let fits : SFits w64 c.difference_of-x.result.value = search rules in
-    ap₂ (λ (z : ℤ) (n : ℕ). of.Difference z n) (to_z-of_z w64 _ fits ∙ x.0) x.1
+    ap₂ (λ (z : ℤ) (n : ℕ). told-of z n) (to_z-of_z w64 _ fits ∙ x.0) x.1
     ∙ sym
     (rw (
       sym (kept-has k s.args.a) ∙ sym first.contains.ensures ∙ not-false _ first.if-not-contains.false-raw,

@@ -1,4 +1,5 @@
 -- `store_entries2::call2` meets its contract. Assumes nothing.
+use lib.Dec.{lit<}
 use Rattle.std.proofs.Common.{◌≤◌, length, take, arith, sym, ap, subst, refl, ◌∙◌}
 use Rattle.density.specs.Network.{no_site}
 use Rattle.records.specs.Format.{edition2}
@@ -8,11 +9,12 @@ use Rattle.serve.specs.Stored.{Among}
 use Rattle.serve.proofs.StoredSteps.{among, stored-steps}
 use Rattle.store_entries2.proofs.call2.Goals as goal
 
-pub store2-requires : goal.store2-requires
-store2-requires c =
+pub store-requires : goal.store-requires
+store-requires c =
     let d = c.serve2-d.result in
     let some_of : Among d.n c.stored-places.result = subst (Among d.n) (sym c.stored-places.ensures) (among c.args.request c.args.store.count d.n) in
-    (some_of.ordered, omega (arith, some_of.first, c.serve2-d.ensures.1.few), omega (arith, some_of.first, c.serve2-d.ensures.1.room))
+    -- the places' size is a usize; and the places are some of those that there are
+    (lit< tt, (some_of.ordered, omega (arith, some_of.first, c.serve2-d.ensures.1.few), omega (arith, some_of.first, c.serve2-d.ensures.1.room)))
 
 -- what is stored makes the table the step's
 pub returns : goal.returns
@@ -20,8 +22,8 @@ returns c =
     let d = c.serve2-d.result in
     let few : d.n ≤ length d.sites = omega (arith, c.serve2-d.ensures.1.few, c.serve2-d.type_inv) in (
       c.serve2-d.ensures.0,
-      rw (c.store2.ensures, c.stored-places.ensures)
+      rw (c.store.ensures, c.stored-places.ensures)
           (stored-steps edition2 c.args.store c.args.table.now d.sites d.n c.args.input.now c.args.buffer.now few c.serve2-d.ensures.1.room c.args.request d.store
           (record { answer = told d.answer; buffer = c.serve2-d.new.buffer })
-          (c.serve2-d.ensures.1.steps c.args.table.now refl (ap (take (length c.args.table.now)) c.held2-sites.ensures ∙ held-stands no_site c.args.table.now))),
+          (c.serve2-d.ensures.1.steps c.args.table.now refl (ap (take (length c.args.table.now)) c.held-sites.ensures ∙ held-stands no_site c.args.table.now))),
     )

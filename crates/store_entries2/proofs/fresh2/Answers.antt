@@ -5,4 +5,4 @@ use Rattle.store.specs.State.{bare}
 use Rattle.store_entries2.proofs.fresh2.Goals as goal
 
 pub returns : goal.returns
-returns c = ap (λ (r : RollArray). bare 0 r) c.no_roll-roll.ensures
+returns c = ap (λ (r : RollArray). bare 0 r) c.no_roll.ensures

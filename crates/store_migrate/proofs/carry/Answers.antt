@@ -1,27 +1,22 @@
 -- `store_migrate::carry` meets its contract. Assumes nothing.
+use lib.Dec.{lit<}
 use borrow.Author.Tests.{not-true, not-false}
 use Rattle.store_migrate.proofs.Moving.{carries-none, carries-plan}
 use Rattle.store_migrate.proofs.carry.Goals as goal
-use Rattle.store_migrate.proofs.carry.Goals.{After-first_groups-groups, After-no_roll-roll, Else-not-store, Start}
 
 pub returns-then-not-store : goal.returns-then-not-store
 returns-then-not-store c = λ e table.
-    let unrolled = (goal.at.returns-then-not-store c).After-no_roll-roll in
-    let s = (goal.at.After-no_roll-roll unrolled).Start in
-    carries-none s.args.store unrolled.no_roll-roll.ensures (not-true s.args.store.held c.if-not-store.true) e table
+    let s = c.args.store in
+    carries-none s c.no_roll.ensures (not-true s.held c.if-not-store.true) e table
 
-pub first_groups-groups-requires : goal.first_groups-groups-requires
-first_groups-groups-requires c =
-    let left = (goal.at.first_groups-groups-requires c).Else-not-store in
-    let unrolled = (goal.at.Else-not-store left).After-no_roll-roll in
-    let s = (goal.at.After-no_roll-roll unrolled).Start in
-    s.requires.1 (not-false s.args.store.held left.if-not-store.false)
+pub first-groups-requires : goal.first-groups-requires
+first-groups-requires c = (lit< tt, c.requires.1 (not-false c.args.store.held c.if-not-store.false))
+
+pub first-shares-requires : goal.first-shares-requires
+first-shares-requires c = (lit< tt, c.requires.0)
 
 pub returns : goal.returns
 returns c = λ e table.
-    let g = (goal.at.returns c).After-first_groups-groups in
-    let left = (goal.at.After-first_groups-groups g).Else-not-store in
-    let unrolled = (goal.at.Else-not-store left).After-no_roll-roll in
-    let s = (goal.at.After-no_roll-roll unrolled).Start in
-    let t = not-false s.args.store.held left.if-not-store.false in
-    carries-plan s.args.store unrolled.no_roll-roll.ensures t s.requires.0 (s.requires.1 t) g.first_groups-groups.ensures c.first_shares-shares.ensures e table
+    let s = c.args.store in
+    let t = not-false s.held c.if-not-store.false in
+    carries-plan s c.no_roll-2.ensures t c.requires.0 (c.requires.1 t) c.first-groups.ensures c.first-shares.ensures e table

@@ -1,44 +1,30 @@
 -- `tables::listed` meets its contract. The invariant: the set has the depots with crews in the roll and those that the sites passed name. Assumes nothing.
-use mathlib.Core.Path.{◌≡◌, ◌∙◌}
+use mathlib.Core.Path.{◌∙◌}
+use Prim.Native.Nat.{◌<◌}
 use native.Mathlib.Omega.{arith}
-use lib.ListN.{length}
-use Rattle.density.specs.Network.{enrolled}
+use lib.Seq.{get_or-take}
+use Rattle.density.specs.Network.{no_site, enrolled}
 use Rattle.records.specs.Values.{roll_in}
 use Rattle.tables.proofs.Sites.{site-small, named_start, named_more, named_end}
 use borrow.Author.Rules.{rules}
 use Rattle.tables.proofs.listed.Goals as goal
-use Rattle.tables.proofs.listed.Goals.{After-enrolled-set, In-loop-i, Start}
 
--- the beginning, from where the depots with crews are known, and from a turn of the loop
-abbrev entered : After-enrolled-set → Start
-entered c = (goal.at.After-enrolled-set c).Start
-
-abbrev start : In-loop-i → Start
-start t = entered (goal.at.In-loop-i t).After-enrolled-set
-
-wide : (s : Start) → length s.args.list.sites ≡ 512
-wide s = search rules
-
-pub loop-i-init : goal.loop-i-init
-loop-i-init c =
-    let list = (entered c).args.list in
-    (search rules, named_start (enrolled (roll_in list.roll)) list.sites _ c.enrolled-set.ensures)
+pub loop-s-init : goal.loop-s-init
+loop-s-init c = named_start (enrolled (roll_in c.args.list.roll)) c.args.list.sites _ c.enrolled-set.ensures
 
 pub name-set-requires : goal.name-set-requires
 name-set-requires c =
-    let t = (goal.at.name-set-requires c).In-loop-i in
-    let s = start t in
-    site-small s.args.list (wide s) s.requires.0 s.requires.1 t.loop-i.i t.loop-i-test.true
+    let list = c.args.list in
+    let i = c.loop-s.s-index in
+    let few : i < list.count = omega (arith, c.loop-s-test.true, c.requires.0) in
+    rw (get_or-take list.count list.sites i no_site few) (site-small list (search rules) c.requires.0 c.requires.1 i few)
 
-pub loop-i-preserved : goal.loop-i-preserved
-loop-i-preserved c =
-    let t = (goal.at.loop-i-preserved c).In-loop-i in
-    let l = t.loop-i in
-    let list = (start t).args.list in
-    (search rules, c.name-set.ensures ∙ named_more (enrolled (roll_in list.roll)) list.sites l.i _ l.invariant.1)
+pub loop-s-preserved : goal.loop-s-preserved
+loop-s-preserved c =
+    let list = c.args.list in
+    let i = c.loop-s.s-index in
+    let few : i < list.count = omega (arith, c.loop-s-test.true, c.requires.0) in
+    c.name-set.ensures ∙ rw (get_or-take list.count list.sites i no_site few) (named_more (enrolled (roll_in list.roll)) list.sites i _ c.loop-s.invariant)
 
 pub returns : goal.returns
-returns c =
-    let l = c.loop-i in
-    let s = entered (goal.at.returns c).After-enrolled-set in
-    l.invariant.1 ∙ named_end s.args.list (wide s) s.requires.0 l.i (omega arith)
+returns c = c.loop-s.invariant ∙ named_end c.args.list (search rules) c.requires.0 c.loop-s.s-index (omega (arith, c.loop-s-test.false, c.requires.0))

@@ -1,9 +1,6 @@
-use Prim.Native.Nat.{◌-◌, ◌≤◌, ◌^◌}
+use Prim.Native.Nat.{◌^◌}
 use Rattle.tables.proofs.Totals.{Summed, carried}
 use Rattle.tables.proofs.litres.Given as goal
 
-abbrev pub invariant-loop-i : goal.invariant-loop-i
-invariant-loop-i l = (l.i ≤ l.list.count) × Summed (λ _. 0) (carried l.list.sites l.places) (2 ^ 32) l.r l.i
-
-abbrev pub decreases-loop-i : goal.decreases-loop-i
-decreases-loop-i l = l.list.count - l.i
+abbrev pub invariant-loop-s : goal.invariant-loop-s
+invariant-loop-s l = Summed (λ _. 0) (carried l.fn.list.sites l.places) (2 ^ 32) l.r l.s-index

@@ -1,12 +1,9 @@
 use mathlib.Core.Path.{◌≡◌}
 use mathlib.Core.Bool.{cond}
-use Prim.Native.Nat.{ℕ, ◌<◌, ◌^◌}
+use Prim.Native.Nat.{ℕ, ◌<◌}
 use lib.ListN.{length, get_or}
-use Rattle.sets.specs.Set.{has, cardinality}
+use Rattle.sets.specs.Set.{has}
 use Rattle.tables.proofs.mark.Given as goal
 
 abbrev pub invariant-loop-d : goal.invariant-loop-d
-invariant-loop-d l = (length l.places ≡ 64) × (l.left < 2 ^ 64) × ((d : ℕ) → d < 64 → cond (has l.left d) l.k (get_or l.places d 0) ≡ cond (has l.set d) l.k (get_or l.initial.places d 0))
-
-abbrev pub decreases-loop-d : goal.decreases-loop-d
-decreases-loop-d l = cardinality (has l.left) 64
+invariant-loop-d l = (length l.places ≡ 64) × ((d : ℕ) → d < 64 → cond (has l.d-iterator.left d) l.k (get_or l.places d 0) ≡ cond (has l.set d) l.k (get_or l.initial.places d 0))

@@ -1,5 +1,4 @@
 use mathlib.Core.Path.{◌≡◌}
-use Prim.Native.Nat.{◌-◌, ◌≤◌}
 use lib.ListN.{length}
 use Rattle.density.specs.Network.{Network}
 use Rattle.density.specs.Plan.{group_size}
@@ -7,7 +6,4 @@ use Rattle.tables.specs.Tables.{Holds}
 use Rattle.tables.proofs.sizes.Given as goal
 
 abbrev pub invariant-loop-k : goal.invariant-loop-k
-invariant-loop-k l = (l.k ≤ length l.groups) × (length l.r ≡ 64) × ((N : Network) → Holds l.weights N.crews 64 → Holds l.r (group_size N l.groups) l.k)
-
-abbrev pub decreases-loop-k : goal.decreases-loop-k
-decreases-loop-k l = length l.groups - l.k
+invariant-loop-k l = (length l.r ≡ 64) × ((N : Network) → Holds l.weights N.crews 64 → Holds l.r (group_size N l.groups) l.k)

@@ -1,21 +1,26 @@
 -- `verify::try_form` meets its contract. Assumes nothing.
 use mathlib.Core.Path.{◌≡◌, refl, sym}
 use mathlib.Core.List.{[], ◌∷◌}
+use mathlib.Core.Option.{Option, none}
+use Prim.Native.Nat.{ℕ}
+use Rattle.std.proofs.lemmas.Result.{err_from_is_err_and}
+use Rattle.density.specs.Rows.{first_row, plan_rows}
+use Rattle.records.specs.declared.PlanArray.{PlanArray}
 use native.Mathlib.Omega.{arith}
 use lib.ListN.{length, take}
 use lib.Seq.{length-take-le}
 use borrow.Author.Rules.{rules}
 use Rattle.density.proofs.Lists.{range-roll}
 use Rattle.records.specs.Values.{listing}
-use Rattle.tables.specs.Tables.{lent_plan}
+use Rattle.tables.specs.Tables.{net, groups_in, shares_in, lent_plan, form_rows, Kept}
 use Rattle.tables.proofs.Locals.{value, memory, arrays}
 use Rattle.tables.proofs.Verdicts.{tables-of, formed}
 use Rattle.verify.proofs.try_form.Code as code
 use Rattle.verify.proofs.try_form.Goals as goal
 use Rattle.verify.proofs.try_form.Goals.{After-add_up-t, After-places-at, After-shared_slice_known-1, After-sizes-q, Start}
 
--- The arrays of its code, by `refl`: another one is refused. Places, q and W returned; the list's sites and roll; in memory each depot's place; the roll, taken out of the list; in memory q of each group; W from `add_up`, and taken out of what it returns; places and q from `tables`.
-arrays-are : arrays (code.function) ≡ value 64 1 ∷ value 64 8 ∷ value 64 8 ∷ value 512 8 ∷ value 64 1 ∷ memory 64 1 ∷ value 64 1 ∷ memory 64 8 ∷ value 64 8 ∷ value 64 8 ∷ value 64 1 ∷ value 64 8 ∷ []
+-- The arrays of its code, by `refl`: another one is refused. Places, q and W returned; the list's sites and roll; in memory each depot's place, and q of each group; W from `add_up`, and taken out of what it returns; places and q from `tables`; the roll, as it is passed on; places, q and W in what `Ok` holds.
+arrays-are : arrays (code.function) ≡ value 64 1 ∷ value 64 8 ∷ value 64 8 ∷ value 512 8 ∷ value 64 1 ∷ memory 64 1 ∷ memory 64 8 ∷ value 64 8 ∷ value 64 8 ∷ value 64 1 ∷ value 64 8 ∷ value 64 1 ∷ value 64 1 ∷ value 64 8 ∷ value 64 8 ∷ []
 arrays-are = refl
 
 -- where q of each group is known: where the places were, and what the beginning said of what is lent
@@ -61,14 +66,32 @@ add_up-t-requires c =
     let plan = lent_plan s.args.count s.args.sets.now s.args.shares.now in
     (s.requires.0, tables-of s.args.list plan s.requires.0 s.requires.1 _ _ (places-wide at) (sizes-wide size) at.places-at.ensures size.sizes-q.ensures, s.requires.2, s.requires.3)
 
-pub returns : goal.returns
-returns c =
-    let t = (goal.at.returns c).After-add_up-t in
+-- the plan that is lent in parts
+abbrev plan : Start → PlanArray
+plan s = lent_plan s.args.count s.args.sets.now s.args.shares.now
+
+-- what rows 12 to 14 find, and what they leave where they pass
+tried : (t : After-add_up-t) → let size = (goal.at.After-add_up-t t).After-sizes-q in let s = (goal.at.After-sizes-q size).Start in let at = (goal.at.After-sizes-q size).After-places-at in
+    (v : Option ℕ) → v ≡ first_row (form_rows (groups_in s.args.list (plan s)) t.add_up-t.result.listed t.add_up-t.result.broken)
+    → (v ≡ first_row (take 3 (plan_rows (net s.args.list) (groups_in s.args.list (plan s)) (shares_in s.args.list (plan s)))))
+    × (v ≡ none → Kept s.args.list (plan s) (record { listed = t.add_up-t.result.listed; places = at.places-at.result; sizes = size.sizes-q.result; litres = t.add_up-t.result.litres }) t.add_up-t.new.wholes)
+tried t v e =
     let size = (goal.at.After-add_up-t t).After-sizes-q in
     let start = (goal.at.After-sizes-q size).After-shared_slice_known-1 in
     let s = (goal.at.After-shared_slice_known-1 start).Start in
     let at = (goal.at.After-sizes-q size).After-places-at in
-    let plan = lent_plan s.args.count s.args.sets.now s.args.shares.now in
     let wide : length s.args.list.sites ≡ 512 = search rules in
-    formed s.args.list plan s.requires.0 wide s.requires.1 (λ i. (start.shared_slice_known-1.given i).fits) _ _ (tables-of s.args.list plan s.requires.0 s.requires.1 _ _ (places-wide at) (sizes-wide size) at.places-at.ensures size.sizes-q.ensures)
-    t.add_up-t.result _ (litres t) t.add_up-t.ensures c.form_of-verdict.result c.form_of-verdict.ensures
+    formed s.args.list (plan s) s.requires.0 wide s.requires.1 (λ i. (start.shared_slice_known-1.given i).fits) _ _ (tables-of s.args.list (plan s) s.requires.0 s.requires.1 _ _ (places-wide at) (sizes-wide size) at.places-at.ensures size.sizes-q.ensures)
+    t.add_up-t.result _ (litres t) t.add_up-t.ensures v e
+
+pub returns-in_err-form_of : goal.returns-in_err-form_of
+returns-in_err-form_of c =
+    let t = (goal.at.returns-in_err-form_of c).After-add_up-t in
+    let p = err_from_is_err_and c.from_residual.result c.from_residual.ensures.1 in
+    rw (p.1, p.2) (record { refusal = (tried t _ c.in_err-form_of.ensures).0; passed = tt })
+
+pub returns : goal.returns
+returns c =
+    let t = (goal.at.returns c).After-add_up-t in
+    let f = tried t _ c.in_ok-form_of.ensures in
+    record { refusal = f.0; passed = f.1 refl }

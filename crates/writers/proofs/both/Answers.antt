@@ -1,7 +1,6 @@
 -- `writers::both` meets its contract. Assumes nothing.
-use Prim.Native.Nat.{ℕ, ◌≤◌, ◌+◌, ◌*◌}
+use Prim.Native.Nat.{ℕ, ◌+◌, ◌*◌}
 use mathlib.Core.Path.{◌≡◌, ◌∙◌, ap₂, sym}
-use native.Mathlib.Nat.{mul-le-mul_right}
 use native.Mathlib.Omega.{arith}
 use lib.ListN.{length}
 use lib.Seq.{length-take-le}
@@ -38,27 +37,6 @@ plan-length s =
     length-plan s.args.e (plan_in s.args.p s.args.l.count)
     ∙ ap₂ (λ (g n : ℕ). 5 + 10 * g + share_size s.args.e * n) (length-take-le s.args.p.count s.args.p.groups (omega (arith, s.requires.3)))
     (length-take-le s.args.l.count s.args.p.shares (omega (arith, s.requires.2)))
-
-small : (s : Start) → (4 + s.args.e.litres) * s.args.l.count ≤ 12 * s.args.l.count
-small s = mul-le-mul_right s.args.l.count (omega (arith, s.requires.0))
-
-small-share : (s : Start) → (2 + s.args.e.share) * s.args.l.count ≤ 10 * s.args.l.count
-small-share s = mul-le-mul_right s.args.l.count (omega (arith, s.requires.1))
-
-pub overflow_mul-first : goal.overflow_mul-first
-overflow_mul-first c = omega (arith, small (goal.at.overflow_mul-first c).Start)
-
-pub overflow_add-first-2 : goal.overflow_add-first-2
-overflow_add-first-2 c = omega (arith, small (goal.at.overflow_add-first-2 c).Start)
-
-pub overflow_add-first-3 : goal.overflow_add-first-3
-overflow_add-first-3 c = omega (arith, small (goal.at.overflow_add-first-3 c).Start)
-
-pub overflow_mul-second-2 : goal.overflow_mul-second-2
-overflow_mul-second-2 c = omega (arith, small-share (goal.at.overflow_mul-second-2 c).Start)
-
-pub overflow_add-second-3 : goal.overflow_add-second-3
-overflow_add-second-3 c = omega (arith, small-share (goal.at.overflow_add-second-3 c).Start)
 
 pub returns-then-out-first : goal.returns-then-out-first
 returns-then-out-first c =

@@ -3,7 +3,6 @@ use Prim.Native.Nat.{ℕ, ◌≤◌, ◌+◌, ◌-◌, ◌*◌}
 use borrow.Rule.Slice.PartMut.{put_mid}
 use mathlib.Core.Path.{◌≡◌, ◌∙◌, ap, ap₂, sym}
 use mathlib.Core.List.{List, [], ◌++◌, flat_map}
-use native.Mathlib.Nat.{mul-le-mul_right}
 use native.Mathlib.Omega.{arith}
 use lib.ListN.{length, take}
 use lib.Seq.{length-take-le}
@@ -52,10 +51,6 @@ count-put c = (goal.at.After-sites c).After-number_at-2
 abbrev start3 : After-sites → Start
 start3 c = start2 (count-put c)
 
--- a site's record has at most twelve bytes
-small : (s : Start) → (4 + s.args.e.litres) * s.args.n ≤ 12 * s.args.n
-small s = mul-le-mul_right s.args.n (omega (arith, s.requires.0))
-
 taken : (s : Start) → length (given s).sites ≡ s.args.n
 taken s = length-take-le _ _ (omega arith)
 
@@ -94,15 +89,6 @@ room c =
     let s = start3 c in
     let kept = ap length (front3 c).is ∙ length-onto (listed s) s.args.out.now (omega (arith, (front3 c).size, roomy c)) in
     omega (arith, kept, roomy c, roll-sized c)
-
-pub overflow_mul-end : goal.overflow_mul-end
-overflow_mul-end c = omega (arith, small (goal.at.overflow_mul-end c).Start)
-
-pub overflow_add-end : goal.overflow_add-end
-overflow_add-end c = omega (arith, small (goal.at.overflow_add-end c).Start)
-
-pub overflow_add-total : goal.overflow_add-total
-overflow_add-total c = omega (arith, small (start0 c), c.roll_size.ensures.1)
 
 pub returns-then-out-total : goal.returns-then-out-total
 returns-then-out-total c =

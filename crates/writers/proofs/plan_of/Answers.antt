@@ -1,9 +1,7 @@
 -- `writers::plan_of` meets its contract: the bytes stand at the front, after each call those written so far. Assumes nothing.
-use Prim.Native.Nat.{ℕ, ◌≤◌, ◌+◌, ◌*◌, ◌-◌}
+use Prim.Native.Nat.{ℕ, ◌+◌, ◌*◌, ◌-◌}
 use mathlib.Core.Path.{refl}
 use mathlib.Core.List.{List, [], ◌++◌, flat_map}
-use native.Mathlib.Nat.{mul-le-mul_right}
-use native.Mathlib.Omega.{arith}
 use borrow.Rule.Slice.PartMut.{put_mid}
 use lib.ListN.{length}
 use Rattle.records.specs.Bytes.{le}
@@ -68,16 +66,6 @@ front4 : (c : After-records)
 front4 c =
     let s = start4 c in
     front-lent _ (length-flat (mark_bytes s.args.e.mark.group 8) 10 (length-mark s.args.e.mark.group 8) (given s).groups) (front3 (shares-counted c)) c.records.ensures
-
--- a share's record has at most ten bytes
-small : (s : Start) → (2 + s.args.e.share) * length (given s).shares ≤ 10 * length (given s).shares
-small s = mul-le-mul_right (length (given s).shares) (omega (arith, s.requires.0))
-
-pub overflow_mul-end : goal.overflow_mul-end
-overflow_mul-end c = omega (arith, small (goal.at.overflow_mul-end c).Start)
-
-pub overflow_add-end-2 : goal.overflow_add-end-2
-overflow_add-end-2 c = omega (arith, small (goal.at.overflow_add-end-2 c).Start)
 
 pub returns-then-out-end : goal.returns-then-out-end
 returns-then-out-end c =

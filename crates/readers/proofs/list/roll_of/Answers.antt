@@ -1,27 +1,12 @@
 -- `readers::list::roll_of` meets its contract. Assumes nothing.
 use mathlib.Core.Bool.{false}
 use mathlib.Core.Path.{sym, ap, ◌∙◌}
-use native.Mathlib.Omega.{arith}
 use lib.Dec.{eqb→eq}
 use Rattle.sets.proofs.Test.{and_r, passes}
 use Rattle.records.specs.declared.RollArray.{RollArray}
-use Rattle.readers.proofs.Heads.{sites-small, roll-some, roll-none}
+use Rattle.readers.proofs.Heads.{roll-some, roll-none}
 use Rattle.readers.proofs.list.roll_of.Goals as goal
 use Rattle.readers.proofs.list.roll_of.Goals.{After-is_rolled, Start, Then-is_rolled}
-
--- the place where it was asked
-abbrev start : After-is_rolled → Start
-start c = (goal.at.After-is_rolled c).Start
-
-pub overflow_mul-e : goal.overflow_mul-e
-overflow_mul-e c =
-    let s = (goal.at.overflow_mul-e c).Start in
-    omega (arith, sites-small s.requires.0 s.requires.1)
-
-pub overflow_add-e-then-is_rolled : goal.overflow_add-e-then-is_rolled
-overflow_add-e-then-is_rolled c =
-    let s = (goal.at.overflow_add-e-then-is_rolled c).Start in
-    omega (arith, sites-small s.requires.0 s.requires.1)
 
 pub roll_at-requires : goal.roll_at-requires
 roll_at-requires c =

@@ -17,7 +17,7 @@ pub no_site-none-requires : goal.no_site-none-requires
 no_site-none-requires c = tt
 
 pub loop-i-init : goal.loop-i-init
-loop-i-init c = (omega arith, ap (replicate 512) c.no_site-none.ensures, sym (any-start _), sym (any-start _))
+loop-i-init c = (ap (replicate 512) c.no_site-none.ensures, sym (any-start _), sym (any-start _))
 
 pub site_of-r-requires : goal.site_of-r-requires
 site_of-r-requires c =
@@ -36,12 +36,6 @@ bounds-sites-i c =
     let s = (goal.at.In-loop-i t).Start in
     omega (arith, t.loop-i-test.true, s.requires.0)
 
-pub either-depots-requires : goal.either-depots-requires
-either-depots-requires c = tt
-
-pub either-litres-requires : goal.either-litres-requires
-either-litres-requires c = tt
-
 pub loop-i-preserved : goal.loop-i-preserved
 loop-i-preserved c =
     let t = (goal.at.loop-i-preserved c).In-loop-i in
@@ -51,10 +45,9 @@ loop-i-preserved c =
     let few = s.requires.0 in
     let r : c.site_of-r.result ≡ site_body (get_or bs l.i 0) = c.site_of-r.ensures in
     let long : l.i < length (all bs) = omega (arith, t.loop-i-test.true, length-map bs (λ b. (site_body b).site)) in (
-      omega (arith, t.loop-i-test.true),
-      rw (l.invariant.1, ap (λ (x : SiteBody). x.site) r, ← (get_or-map (λ b. (site_body b).site) bs l.i 0)) (fill_step (all bs) l.i 512 no_site (site_body 0).site long (omega (arith, t.loop-i-test.true, few))),
-      c.either-depots.ensures ∙ rw (l.invariant.2, ap (λ (x : SiteBody). x.depot) r, any_step),
-      c.either-litres.ensures ∙ rw (l.invariant.3, ap (λ (x : SiteBody). x.litres) r, any_step),
+      rw (l.invariant.0, ap (λ (x : SiteBody). x.site) r, ← (get_or-map (λ b. (site_body b).site) bs l.i 0)) (fill_step (all bs) l.i 512 no_site (site_body 0).site long (omega (arith, t.loop-i-test.true, few))),
+      rw (l.invariant.1, ap (λ (x : SiteBody). x.depot) r, any_step),
+      rw (l.invariant.2, ap (λ (x : SiteBody). x.litres) r, any_step),
     )
 
 pub returns : goal.returns
@@ -62,8 +55,8 @@ returns c =
     let l = c.loop-i in
     let a = c.args in
     let bs = a.bodies.now in
-    let e : l.i ≡ length bs = omega (arith, l.invariant.0, c.loop-i-test.false) in
-    let placed = fill-all (all bs) 512 no_site (length-map bs (λ b. (site_body b).site) ∙ sym e) l.invariant.1 in
-    let depots = l.invariant.2 ∙ ap (any (λ j. (site_body (get_or bs j 0)).depot)) e in
-    let litres = l.invariant.3 ∙ ap (any (λ j. (site_body (get_or bs j 0)).litres)) e in
+    let e : l.i ≡ length bs = omega (arith, c.loop-i-test.false) in
+    let placed = fill-all (all bs) 512 no_site (length-map bs (λ b. (site_body b).site) ∙ sym e) l.invariant.0 in
+    let depots = l.invariant.1 ∙ ap (any (λ j. (site_body (get_or bs j 0)).depot)) e in
+    let litres = l.invariant.2 ∙ ap (any (λ j. (site_body (get_or bs j 0)).litres)) e in
     λ j. record { sites = placed j; marks = a.marks; depots = depots j; litres = litres j }

@@ -1,10 +1,7 @@
-use Prim.Native.Nat.{◌≤◌}
-use lib.ListN.{length, drop}
+use Rattle.std.proofs.Common.{◌≤◌, ◌-◌, length, drop}
 use Rattle.records.specs.Bytes.{Value}
 use Rattle.records.proofs.number.value.Given as goal
 
-abbrev pub invariant-loop-i : goal.invariant-loop-i
-invariant-loop-i l = (l.i ≤ length l.s) × Value (drop l.i l.s) l.v
-
-abbrev pub decreases-loop-i : goal.decreases-loop-i
-decreases-loop-i l = l.i
+-- the bytes passed are the last ones
+abbrev pub invariant-loop-b : goal.invariant-loop-b
+invariant-loop-b l = (length l.yielded ≤ length l.s) × Value (drop (length l.s - length l.yielded) l.s) l.v

@@ -1,8 +1,0 @@
-use Rattle.std.proofs.Common.{◌-◌, ◌≤◌}
-use Rattle.networks.proofs.isolated.Given as goal
-
-abbrev pub invariant-loop-d : goal.invariant-loop-d
-invariant-loop-d l = l.d ≤ 64
-
-abbrev pub decreases-loop-d : goal.decreases-loop-d
-decreases-loop-d l = 64 - l.d

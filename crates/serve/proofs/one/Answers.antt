@@ -1,9 +1,0 @@
--- `serve::one` meets its contract. Assumes nothing.
-use borrow.Author.Tests.{lt-ltb, le-ltb}
-use Rattle.serve.proofs.one.Goals as goal
-
-pub returns-then-i-n : goal.returns-then-i-n
-returns-then-i-n c = simp (lt-ltb _ _ c.if-i-n.true)
-
-pub returns : goal.returns
-returns c = simp (le-ltb _ _ c.if-i-n.false)
