@@ -1,11 +1,14 @@
 -- Document 01, "Entry points", the desk: what the library for Rust and C answers to a call of the store, as one number and up to two figures.
 use Rattle.std.specs.Prelude.{ℕ, true, cond, ◌&&◌, List, ◌≡◌, eqb, ℤ, pos, neg_ℤ, length}
+use Rattle.std.specs.declared.result.Result.{Result}
+use Rattle.std.specs.declared.result.Result.TheVariants.{Ok, Err}
 use Rattle.std.proofs.Math.Option.{none}
 use Rattle.records.specs.declared.Edition.{Edition}
 use Rattle.records.specs.Bytes.{Bytes}
 use Rattle.records.specs.Values.{roll_array}
 use Rattle.records.specs.Format.{edition1, edition2}
-use Rattle.store.specs.Calls.{Call, Told, refused, done, shared, loaded, differ, wrote, reached}
+use Rattle.store.specs.declared.Answer.{Answer}
+use Rattle.store.specs.Calls.{Call, Told, told, refused, done, shared, loaded, differ, wrote, reached}
 use Rattle.store.specs.State.{bare, step}
 use Rattle.layout.specs.Layout.{store_bytes, store_in}
 use Rattle.lent.specs.Lent.{state_in, is_of, laid, call}
@@ -24,6 +27,11 @@ row_code n = cond (eqb n 0) (neg_ℤ (pos 256)) (neg_ℤ (pos n))
 -- What is answered where the bytes have not the length of a store that the function serves: no row of the paper, so no row's number.
 abbrev pub no_store_code : ℤ
 no_store_code = neg_ℤ (pos 257)
+
+-- an answer in the paper's terms where a refusal is a number, any of 8 bits
+abbrev pub told_by : Result Answer ℕ → Told
+told_by (Ok a) = told (Ok a)
+told_by (Err n) = refused n
 
 -- 0 where the call is done, or its row
 abbrev pub done_code : Told → ℤ

@@ -2,13 +2,12 @@
 #![tactic(auto)]
 
 ghost use Rattle.std.specs.Prelude.{◌≡◌, [], ℕ, ◌<◌, ◌^◌};
-ghost use Rattle.records.specs.Refusals.{number};
 ghost use Rattle.store.specs.Calls.{told, wrote};
 ghost use Rattle.store.specs.declared.Request.TheVariants as request;
 ghost use Rattle.store.specs.Trace.{ReadsOnly};
 ghost use Rattle.store.specs.Widths.{Fitting};
 ghost use Rattle.lent.specs.Lent.{is_of};
-ghost use Rattle.codes.specs.Codes.{edition_in, row_code, length_code, outcome_of, Did, Figures, Differs, WroteOut, FreshCode, MigrateCode};
+ghost use Rattle.codes.specs.Codes.{edition_in, row_code, length_code, told_by, outcome_of, Did, Figures, Differs, WroteOut, FreshCode, MigrateCode};
 
 use density::Site;
 use records::{Edition, Refusal, edition1, edition2};
@@ -31,19 +30,25 @@ const ROW_0: i64 = -256;
 const NO_STORE: i64 = -257;
 
 // A row's number with a minus sign; row 0 is -256.
-fn row(refusal: Refusal) -> i64
-    ensures { result ≡ row_code (number refusal) }
+fn row(n: u8) -> i64
+    ensures { result ≡ row_code n }
 {
-    let n = refusal.number();
     if n == 0 {
         return ROW_0;
     }
     refused(n)
 }
 
-// An answer as a code and figures; figures that it does not have stay as they were.
-pub fn outcome(answer: Result<Answer, Refusal>, first: u64, second: u64, difference: i64) -> Coded
-    ensures { result ≡ outcome_of (told answer) first second difference }
+// An answer, with the number of the row where it is refused.
+fn numbered(answer: Result<Answer, Refusal>) -> Result<Answer, u8>
+    ensures { told_by result ≡ told answer }
+{
+    answer.map_err(Refusal::number)
+}
+
+// An answer as a code and figures; figures that it does not have stay as they were. A refusal is a number, of a row or not.
+pub fn outcome(answer: Result<Answer, u8>, first: u64, second: u64, difference: i64) -> Coded
+    ensures { result ≡ outcome_of (told_by answer) first second difference }
 {
     let kept = Coded {
         code: 0,
@@ -52,8 +57,8 @@ pub fn outcome(answer: Result<Answer, Refusal>, first: u64, second: u64, differe
         difference,
     };
     match answer {
-        Err(refusal) => Coded {
-            code: row(refusal),
+        Err(n) => Coded {
+            code: row(n),
             ..kept
         },
         Ok(Answer::Done | Answer::Length(_)) => kept,
@@ -82,7 +87,7 @@ fn written(answer: Result<Answer, Refusal>) -> i64
     ensures { result ≡ length_code (told answer) }
 {
     match answer {
-        Err(refusal) => row(refusal),
+        Err(refusal) => row(refusal.number()),
         Ok(Answer::Length(n)) => length(n),
         Ok(
             Answer::Done
@@ -140,7 +145,7 @@ pub fn load(e: Edition, store: &mut [u8], table: &mut [u8], list: &[u8]) -> i64
     if !is_store(e, store) {
         return NO_STORE;
     }
-    outcome(lent::load(e, store, table, list), 0, 0, 0).code
+    outcome(numbered(lent::load(e, store, table, list)), 0, 0, 0).code
 }
 
 // Change a site's litres: 0, or the row.
@@ -151,7 +156,8 @@ pub fn change(e: Edition, store: &mut [u8], table: &mut [u8], site: usize, litre
     if !is_store(e, store) {
         return NO_STORE;
     }
-    outcome(lent::change(e, store, table, site, litres), 0, 0, 0).code
+    let a = numbered(lent::change(e, store, table, site, litres));
+    outcome(a, 0, 0, 0).code
 }
 
 // Add a site at the end: 0, or the row.
@@ -162,7 +168,7 @@ pub fn add(e: Edition, store: &mut [u8], table: &mut [u8], x: Site) -> i64
     if !is_store(e, store) {
         return NO_STORE;
     }
-    outcome(lent::add(e, store, table, x), 0, 0, 0).code
+    outcome(numbered(lent::add(e, store, table, x)), 0, 0, 0).code
 }
 
 // Propose a plan: 0 where it passes, or the row. The table is only read.
@@ -173,7 +179,7 @@ pub fn propose(e: Edition, store: &mut [u8], table: &[u8], plan: &[u8]) -> i64
     if !is_store(e, store) {
         return NO_STORE;
     }
-    outcome(lent::propose(e, store, table, plan), 0, 0, 0).code
+    outcome(numbered(lent::propose(e, store, table, plan)), 0, 0, 0).code
 }
 
 // A call that only reads, for two figures: 0 and they are written, or the row.
@@ -193,7 +199,7 @@ pub fn figures(
     }
     let mut none = [0u8; 0];
     let a = lent::look(e, store, table, request, &mut none);
-    let o = outcome(a, *first, *second, 0);
+    let o = outcome(numbered(a), *first, *second, 0);
     *first = o.first;
     *second = o.second;
     o.code
@@ -217,7 +223,7 @@ pub fn difference(
     }
     let mut none = [0u8; 0];
     let answer = lent::look(e, store, table, Request::Difference(a, b), &mut none);
-    let o = outcome(answer, 0, *divisor, *difference);
+    let o = outcome(numbered(answer), 0, *divisor, *difference);
     *difference = o.difference;
     *divisor = o.second;
     o.code
@@ -245,5 +251,5 @@ pub fn migrate(store: &[u8], table: &[u8], store2: &mut [u8], table2: &mut [u8])
         return NO_STORE;
     }
     let a = store_migrate_bytes::migrate(store, table, store2, table2);
-    outcome(a, 0, 0, 0).code
+    outcome(numbered(a), 0, 0, 0).code
 }

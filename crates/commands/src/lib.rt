@@ -48,7 +48,7 @@ const SITE: u64 = u64::MAX;
 
 const DEPOT: u64 = 255;
 
-const THRESHOLD: u32 = 4294967295;
+const THRESHOLD: u64 = 4294967295;
 
 // The first word and what stands behind it, where there is a word.
 fn next(text: &[u8]) -> Option<(&[u8], &[u8])>
@@ -75,7 +75,14 @@ fn depot(text: &[u8]) -> Option<u8>
     script::decimal(text, DEPOT).map(|n| n as u8)
 }
 
-// The litres of a site or of a threshold.
+// A threshold of litres.
+fn threshold(text: &[u8]) -> Option<u32>
+    ensures { result ≡ number_of 4294967295 text.now }
+{
+    script::decimal(text, THRESHOLD).map(|m| m as u32)
+}
+
+// The litres of a site.
 fn litres_of(text: &[u8], most: u32) -> Option<u32>
     ensures { result ≡ number_of most text.now }
 {
@@ -106,9 +113,7 @@ fn reads(name: &[u8], word: &[u8]) -> Option<Command>
     } else if script::same(name, b"written") {
         count(word, SIZE).map(Command::Written)
     } else if script::same(name, b"atleast") {
-        litres_of(word, THRESHOLD)
-            .map(Request::AtLeast)
-            .map(Command::Call)
+        threshold(word).map(Request::AtLeast).map(Command::Call)
     } else if script::same(name, b"list") {
         count(word, SIZE).map(Command::ListWritten)
     } else {

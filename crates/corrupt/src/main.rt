@@ -13,8 +13,8 @@ use records::{Refusal, RollArray, no_roll};
 use std::io;
 use store::{Answer, Request};
 use store_entries2::{call_on2, fresh2};
-use table::Site1;
 use table::values::narrow_low;
+use table::{NO_SITE, NO_SITE1, Site1};
 use tally::Tally;
 
 #[derive(Clone, Copy)]
@@ -107,11 +107,19 @@ impl Desk {
 
 // A table and a request at edition 1's widths, and a table as the definition has it.
 fn narrow_table(table: [Site; 600]) -> [Site1; 600] {
-    table.map(|x| narrow_low(x))
+    let mut narrow = [NO_SITE1; 600];
+    for (i, &x) in table.iter().enumerate() {
+        narrow[i] = narrow_low(x);
+    }
+    narrow
 }
 
 fn widen_table(table: [Site1; 600]) -> [Site; 600] {
-    table.map(Site::from)
+    let mut wide = [NO_SITE; 600];
+    for (i, &x) in table.iter().enumerate() {
+        wide[i] = Site::from(x);
+    }
+    wide
 }
 
 fn narrow_request(q: Request) -> Request1 {

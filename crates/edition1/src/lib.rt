@@ -72,7 +72,11 @@ pub fn fresh1() -> Store1
 fn widen_shares(shares: [u32; 512]) -> [u64; 512]
     ensures { (result ≡ shares) × ((i : ℕ) → get_or result i 0 < 2 ^ 32) }
 {
-    shares.map(u64::from)
+    let mut a = [0u64; 512];
+    for (i, &share) in shares.iter().enumerate() {
+        a[i] = u64::from(share);
+    }
+    a
 }
 
 // The store by the widths of the definition: its shares have 32 bits, and it has no roll.
@@ -98,7 +102,11 @@ impl From<Store1> for Store {
 fn narrow_shares(shares: [u64; 512]) -> [u32; 512]
     ensures { ((i : ℕ) → get_or shares i 0 < 2 ^ 32) → result ≡ shares }
 {
-    shares.map(|share| (share % 4294967296) as u32)
+    let mut a = [0u32; 512];
+    for (i, &share) in shares.iter().enumerate() {
+        a[i] = (share % 4294967296) as u32;
+    }
+    a
 }
 
 // The store by the widths of edition 1, if its shares fit and it has no roll.

@@ -8,8 +8,7 @@ ghost use Rattle.serve.specs.Stored.{stored_of};
 
 use edition1::{Out1, Request1, Store1, serve1};
 use records::Refusal;
-use serve::stored;
-use std::ops::Range;
+use serve::{Places, stored};
 use store::{Answer, Request};
 use table::{NO_SITE1, Site1, places_on};
 
@@ -43,7 +42,7 @@ pub fn call_on1(
 }
 
 // Which of the first n places a call stores, at a store with so many sites.
-fn stored1(request: Request1, count: usize, n: usize) -> Range<usize>
+fn stored1(request: Request1, count: usize, n: usize) -> Places
     ensures { result ≡ stored_of (request_of1 request) count n }
 {
     stored(Request::from(request), count, n)
@@ -62,7 +61,7 @@ pub fn call1(
     let sites = table::held(table, NO_SITE1);
     let d = serve1(store, sites, table.len(), request, input, buffer);
     let places = stored1(request, store.count, d.n);
-    table::store(table, d.sites, places.start, places.end);
+    table::store(table, d.sites, places.from, places.to);
     Out1 {
         answer: d.answer,
         store: d.store,

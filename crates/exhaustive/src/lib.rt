@@ -1,4 +1,4 @@
-// Found and plans by a plain count over all sets of depots, from document 01, "Depots, sites, groups", and document 02, g and h. It shares nothing with the engine but the
+// Groups and plans by a plain count over all sets of depots, from document 01, "Depots, sites, groups", and document 02, g and h. It shares nothing with the engine but the
 // types of a list and of a plan. For lists of at most 16 sites whose listed depots are below 12; `is_small` says whether a list is one. No sum and no product of theirs wraps.
 #![tactic(auto)]
 
@@ -167,7 +167,7 @@ impl Small {
         best.set
     }
 
-    // "Found follow until every listed depot is in one."
+    // "Groups follow until every listed depot is in one."
     fn groups(&self) -> Found {
         let mut found = Found {
             count: 0,
@@ -229,7 +229,7 @@ impl Small {
     }
 }
 
-// Found in order, 0 beyond the last.
+// Groups in order, 0 beyond the last.
 #[derive(Clone, Copy)]
 struct Found {
     count: usize,

@@ -1,6 +1,6 @@
 -- What Make writes: from the plan made to its bytes; the length answered, and that the plan passes Check. Assumes nothing.
 use mathlib.Core.Path.{◌≡◌, refl, sym, ap, subst, ◌∙◌}
-use mathlib.Core.Bool.{cond}
+use mathlib.Core.Bool.{Bool, true, false, cond}
 use mathlib.Core.List.{List}
 use mathlib.Core.Option.{none}
 use Prim.Native.Nat.{ℕ, ◌+◌, ◌*◌, ◌≤◌, ◌^◌}
@@ -19,6 +19,7 @@ use Rattle.records.specs.declared.PlanArray.{PlanArray}
 use Rattle.std.specs.declared.result.Result.{Result}
 use Rattle.std.specs.declared.result.Result.TheVariants.{Ok, Err}
 use Rattle.records.specs.declared.refusal.Refusal.{Refusal}
+use Rattle.records.specs.declared.refusal.Refusal.TheVariants.{BufferShort}
 use Rattle.records.specs.Refusals.{number, outcome}
 use Rattle.records.specs.Values.{Plan, listing, plan_in}
 use Rattle.records.specs.Bytes.{Bytes}
@@ -30,6 +31,7 @@ use Rattle.records.proofs.Records.{all-at}
 use Rattle.records.proofs.Buffers.{length-plan, answered}
 use Rattle.records.proofs.Files.{written-front}
 use Rattle.records.proofs.Answers.{list-passed, list-refused, listing-array}
+use Rattle.records.proofs.Numbers.{outcome-one}
 use Rattle.records.proofs.RoundTrip.{list-good, list-range, list-few, laid-plan, laid-read}
 use Rattle.readers.proofs.Editions.{marks}
 use Rattle.judge.specs.Check.{check_row}
@@ -83,14 +85,19 @@ refusal-made e s x out row = rw (list-refused (read_list e 512 s) row) (refl, re
 
 -- "answers the plan's length", or row 20 where the buffer is shorter
 pub made-answer : (e : Edition) (s : List ℕ) {l : Listing} (out last : List ℕ) (r : Result ℕ Refusal) → read_list e 512 s ≡ passed l → Made e (read_list e 512 s) out r last
-    → outcome r ≡ cond (ltb (length out) (plan_length e l)) (refused 20) (passed (plan_length e l))
+    → r ≡ cond (ltb (length out) (plan_length e l)) (Err BufferShort) (Ok (plan_length e l))
 unfolding network
 made-answer e s {l = l} out last r h m =
     let p : PlanWritten e l out r last = subst (λ (o : Outcome Listing). Made e o out r last) h m in
-    subst (λ (n : ℕ). outcome r ≡ cond (ltb (length out) n) (refused 20) (passed n))
+    settled (ltb (length out) (plan_length e l)) (plan_length e l)
+    (subst (λ (n : ℕ). outcome r ≡ cond (ltb (length out) n) (refused 20) (passed n))
     (length-plan e (record { groups = groups_of (network l); shares = p.shares }) ∙ ap (λ (n : ℕ). 5 + 10 * length (groups_of (network l)) + share_size e * n) (each l p.plan))
-    (answered (plan_bytes e (record { groups = groups_of (network l); shares = p.shares })) out p.written)
+    (answered (plan_bytes e (record { groups = groups_of (network l); shares = p.shares })) out p.written))
   where
+    settled : (short : Bool) (n : ℕ) → outcome r ≡ cond short (refused 20) (passed n) → r ≡ cond short (Err BufferShort) (Ok n)
+    settled true n is = outcome-one r (Err BufferShort) is
+    settled false n is = outcome-one r (Ok n) is
+
     each : (l : Listing) {gs ss : List ℕ} → TruePlan (network l) gs ss → length ss ≡ length l.sites
     each l t = t.form.each
 

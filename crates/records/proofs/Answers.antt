@@ -7,12 +7,16 @@ use native.Mathlib.Omega.{arith}
 use lib.Dec.{T}
 use lib.ListN.{length}
 use lib.Seq.{take-append_seam}
+use Rattle.std.specs.declared.result.Result.{Result}
+use Rattle.std.specs.declared.result.Result.TheVariants.{Ok, Err}
 use Rattle.density.specs.Network.{Listing, in_range}
 use Rattle.records.specs.declared.Edition.{Edition}
 use Rattle.records.specs.declared.ListArray.{ListArray}
 use Rattle.records.specs.declared.PlanArray.{PlanArray}
 use Rattle.records.specs.Values.{Plan, roll_in, roll_array, listing, plan_in}
+use Rattle.records.specs.declared.refusal.Refusal.{Refusal}
 use Rattle.records.specs.Outcome.{Outcome, refused, passed}
+use Rattle.records.specs.Refusals.{outcome, refusal_of}
 use Rattle.records.specs.Answer.{list_array, plan_array, list_read, plan_read}
 use Rattle.records.specs.Format.{read_list}
 use Rattle.records.proofs.RoundTrip.{list-few, list-range}
@@ -65,3 +69,16 @@ module _ (o : Outcome Listing) {x : ListArray} (is : passed x ≡ list_read o) w
 
     pub array-range : T (in_range (listing x))
     array-range = list-range e 512 s (reads (listing x) list-is)
+
+-- the same of what a reader answers
+pub list-refused-by : (o : Outcome Listing) (x : Result ListArray Refusal) {n : ℕ} → outcome x ≡ list_read o → refusal_of x ≡ some n → o ≡ refused n
+list-refused-by (refused k) (Err e) is h = cc
+list-refused-by (refused k) (Ok a) is h = let z : ◌≡◌ {A = ℕ} 0 1 = cc in absurd (omega arith)
+list-refused-by (passed l) (Err e) is h = let z : ◌≡◌ {A = ℕ} 0 1 = cc in absurd (omega arith)
+list-refused-by (passed l) (Ok a) is h = let z : ◌≡◌ {A = ℕ} 0 1 = cc in absurd (omega arith)
+
+pub plan-refused-by : (o : Outcome Plan) (x : Result PlanArray Refusal) {n : ℕ} → outcome x ≡ plan_read o → refusal_of x ≡ some n → o ≡ refused n
+plan-refused-by (refused k) (Err e) is h = cc
+plan-refused-by (refused k) (Ok a) is h = let z : ◌≡◌ {A = ℕ} 0 1 = cc in absurd (omega arith)
+plan-refused-by (passed l) (Err e) is h = let z : ◌≡◌ {A = ℕ} 0 1 = cc in absurd (omega arith)
+plan-refused-by (passed l) (Ok a) is h = let z : ◌≡◌ {A = ℕ} 0 1 = cc in absurd (omega arith)

@@ -8,3 +8,4 @@ pub mod Files
 pub mod Samples
 pub mod Answers
 pub mod Rolls
+pub mod Numbers

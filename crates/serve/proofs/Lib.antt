@@ -1,4 +1,5 @@
 pub mod FirstPlaces
 pub mod ServeRules
 pub mod StoredSteps
+pub mod PlacesRow
 pub mod Entries

@@ -20,7 +20,7 @@ use Rattle.store.specs.declared.Request.{Request}
 use Rattle.store.specs.declared.Request.TheVariants.{Load, Change, Add, Propose, Share, Depot, Difference, Written, AtLeast, ListWritten}
 use Rattle.store.specs.Calls.{Call, Reply}
 use Rattle.store.specs.State.{Done, refusal, effect_of, settle, step}
-use Rattle.std.specs.declared.ops.Range.{Range}
+use Rattle.serve.specs.declared.Places.{Places}
 use Rattle.serve.specs.Stored.{one, stored_of, Among}
 use Rattle.serve.specs.Stored as stored
 
@@ -48,8 +48,8 @@ among (AtLeast m) count n = among_none n
 among ListWritten count n = among_none n
 
 -- what is stored at the places
-abbrev at : {X : Type 0} → Range ℕ → List X → List X → List X
-at p sites table = between p.start p.end sites table
+abbrev at : {X : Type 0} → Places → List X → List X → List X
+at p sites table = between p.from p.to sites table
 
 module _ {X : Type 0} (n : ℕ) (sites table : List X) (few : n ≤ length sites) (room : n ≤ length table) where
   stored-none : overlay n sites table ≡ table → at stored.none sites table ≡ overlay n sites table
@@ -124,6 +124,6 @@ module _ {X : Type 0} (f : X → Site) (e : Edition) (k : Store) (table sites : 
       → done e k' r (map f (at (stored_of q k.count n) sites table)) ≡ step_of e k q input buffer (map f table)
   seen-steps h =
       let p = stored_of q k.count n in
-      ap (done e k' r) (map-between f p.start p.end sites table)
+      ap (done e k' r) (map-between f p.from p.to sites table)
       ∙ stored-steps e k (map f table) (map f sites) n input buffer (omega (arith, few, length-map sites f)) (omega (arith, room, length-map table f)) q k' r
       (ap (done e k' r) (sym (map-overlay f n sites table)) ∙ h)

@@ -4,21 +4,21 @@
 use Rattle.std.specs.Prelude.{cond, ℕ, ◌+◌, ◌≤◌, ltb}
 use Rattle.store.specs.declared.Request.{Request}
 use Rattle.store.specs.declared.Request.TheVariants.{Load, Change, Add, Propose, Share, Depot, Difference, Written, AtLeast, ListWritten}
-use Rattle.std.specs.declared.ops.Range.{Range}
+use Rattle.serve.specs.declared.Places.{Places}
 
-abbrev pub none : Range ℕ
-none = record { start = 0; end = 0 }
+abbrev pub none : Places
+none = record { from = 0; to = 0 }
 
-abbrev pub alone : ℕ → Range ℕ
-alone i = record { start = i; end = i + 1 }
+abbrev pub alone : ℕ → Places
+alone i = record { from = i; to = i + 1 }
 
 -- the place i alone, if it is one of the first n
-abbrev pub one : ℕ → ℕ → Range ℕ
+abbrev pub one : ℕ → ℕ → Places
 one i n = cond (ltb i n) (alone i) none
 
 -- at a store with so many sites, where the decision says n
-abbrev pub stored_of : Request → ℕ → ℕ → Range ℕ
-stored_of Load count n = record { start = 0; end = n }
+abbrev pub stored_of : Request → ℕ → ℕ → Places
+stored_of Load count n = record { from = 0; to = n }
 stored_of (Change i w) count n = one i n
 stored_of (Add f s w) count n = one count n
 stored_of Propose count n = none
@@ -30,6 +30,6 @@ stored_of (AtLeast m) count n = none
 stored_of ListWritten count n = none
 
 -- places that are some of the first n
-pub record Among (n : ℕ) (p : Range ℕ) : Type 0 where
-  pub ordered : p.start ≤ p.end
-  pub first : p.end ≤ n
+pub record Among (n : ℕ) (p : Places) : Type 0 where
+  pub ordered : p.from ≤ p.to
+  pub first : p.to ≤ n

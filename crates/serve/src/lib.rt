@@ -16,11 +16,18 @@ ghost use Rattle.serve.specs.Stored.{one, stored_of};
 use density::Site;
 use held_state::{Store, Summary, is_any_bad, is_corrupt};
 use records::{Edition, ListArray, Refusal};
-use std::ops::Range;
 use store::decide::{refuse, with_plan, without_plan};
 use store::{Decision, Request};
 use store_calls::{add_row, answer, change_row};
 use table::capacity;
+
+// Places of a table: from one up to another, which is not one of them.
+// Kept: `Range` is not `Copy`, and what a call stores is a value as others are.
+#[derive(Clone, Copy)]
+pub struct Places {
+    pub from: usize,
+    pub to: usize,
+}
 
 // What a call goes by beside the sites and the plan.
 fn summary(store: Store, sites: [Site; 512], places: usize) -> Summary
@@ -176,20 +183,24 @@ pub fn serve(
 }
 
 // The place i alone, if it is one of the first n; else none.
-fn one(i: usize, n: usize) -> Range<usize>
+fn one(i: usize, n: usize) -> Places
     ensures { result ≡ one i n }
 {
-    if i < n { i..i + 1 } else { 0..0 }
+    if i < n {
+        Places { from: i, to: i + 1 }
+    } else {
+        Places { from: 0, to: 0 }
+    }
 }
 
 // Which of the first n places a call stores, at a store with so many sites: a load all of them, a change and an add one, the others none.
-pub fn stored(request: Request, count: usize, n: usize) -> Range<usize>
+pub fn stored(request: Request, count: usize, n: usize) -> Places
     ensures { result ≡ stored_of request count n }
 {
     match request {
-        Request::Load => 0..n,
+        Request::Load => Places { from: 0, to: n },
         Request::Change(i, _) => one(i, n),
         Request::Add(_, _, _) => one(count, n),
-        _ => 0..0,
+        _ => Places { from: 0, to: 0 },
     }
 }

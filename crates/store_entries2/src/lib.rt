@@ -71,7 +71,7 @@ pub fn call2(
     let sites = table::held(table, NO_SITE);
     let d = serve2(store, sites, table.len(), request, input, buffer);
     let places = stored(request, store.count, d.n);
-    table::store(table, d.sites, places.start, places.end);
+    table::store(table, d.sites, places.from, places.to);
     Out2 {
         answer: d.answer,
         store: d.store,

@@ -100,5 +100,9 @@ impl From<Site1> for Site {
 pub fn widen_all(sites: [Site1; 512]) -> [Site; 512]
     ensures { (result ≡ map widened sites) × LitresFit result }
 {
-    sites.map(Site::from)
+    let mut a = [NO_SITE; 512];
+    for (i, &s) in sites.iter().enumerate() {
+        a[i] = Site::from(s);
+    }
+    a
 }

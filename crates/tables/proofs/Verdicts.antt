@@ -1,5 +1,5 @@
 -- From the rows to the verdict, and what rows 14 to 16 are tried on. Assumes nothing.
-use mathlib.Core.Path.{◌≡◌, refl, sym, ◌∙◌}
+use mathlib.Core.Path.{◌≡◌, refl, sym, ap, ◌∙◌}
 use mathlib.Core.Bool.{Bool, true, false, cond}
 use mathlib.Core.List.{List}
 use mathlib.Core.Option.{Option, none, some}
@@ -7,6 +7,8 @@ use Prim.Native.Nat.{ℕ, ◌+◌, ◌<◌, ◌^◌}
 use native.Mathlib.Omega.{arith}
 use lib.ListN.{length, get_or, take, replicate}
 use lib.Seq.{get_or-take, length-take-le}
+use Rattle.std.specs.declared.result.Result.{Result}
+use Rattle.std.specs.declared.result.Result.TheVariants.{Ok, Err}
 use Rattle.sets.specs.Sum.{sum}
 use Rattle.sets.specs.Set.{set_of}
 use Rattle.density.specs.Network.{Listing, Network, crews_of, network}
@@ -14,7 +16,9 @@ use Rattle.density.specs.Plan.{place, group_size}
 use Rattle.density.specs.Rows.{first_row, plan_rows, groups_meet, groups_unlisted, shares_broken, loads_uneven, groups_rise}
 use Rattle.records.specs.declared.ListArray.{ListArray}
 use Rattle.records.specs.declared.PlanArray.{PlanArray}
+use Rattle.records.specs.declared.refusal.Refusal.{Refusal}
 use Rattle.records.specs.Values.{roll_in, listing}
+use Rattle.records.specs.Refusals.{number, refusal_of}
 use Rattle.tables.specs.declared.Tally.{Tally}
 use Rattle.tables.specs.declared.Form.{Form}
 use Rattle.tables.specs.Tables.{net, groups_in, shares_in, Holds, Counted, Ready, Tables, Litres, Tallied, part_of, Parts, Levels, form_rows, Kept, Small}
@@ -23,6 +27,13 @@ use Rattle.tables.proofs.Arrays.{from_zero}
 use Rattle.tables.proofs.Groups.{unlisted-is, listed-is, crews-net}
 use Rattle.tables.proofs.Shares.{sizes-few}
 use Rattle.tables.proofs.Totals.{parts, parts-load}
+
+-- what an answer says of the row
+pub verdict-refused : {A : Type 0} (o : Option ℕ) {r : Result A Refusal} {e : Refusal} → refusal_of r ≡ o → r ≡ Err e → o ≡ some (number e)
+verdict-refused o is h = sym is ∙ ap refusal_of h
+
+pub verdict-passes : {A : Type 0} (o : Option ℕ) {r : Result A Refusal} {a : A} → refusal_of r ≡ o → r ≡ Ok a → o ≡ none
+verdict-passes o is h = sym is ∙ ap refusal_of h
 
 never : (n : ℕ) → ◌≡◌ {A = Option ℕ} (some n) none → ⊥
 never n e = let z : ◌≡◌ {A = ℕ} 0 1 = cc in omega arith

@@ -3,6 +3,7 @@ use mathlib.Core.List.{[]}
 use mathlib.Core.Path.{sym, ap, ◌∙◌}
 use native.Mathlib.Omega.{arith}
 use Rattle.codes.specs.declared.Coded.{Coded}
+use Rattle.codes.specs.Codes.{done_code}
 use Rattle.signed.proofs.Signed.{read_back}
 use Rattle.codes.proofs.DeskCodes.{no_bytes, did-not, did}
 use Rattle.codes.proofs.change.Goals as goal
@@ -14,4 +15,4 @@ pub change-requires : goal.change-requires
 change-requires c = (c.requires.0, sym c.is_store.ensures ∙ c.if-not-is_store.false, c.requires.1)
 
 pub returns : goal.returns
-returns c = did (sym c.is_store.ensures ∙ c.if-not-is_store.false) (c.change.ensures [] [] no_bytes) (read_back (omega arith) ∙ ap (λ (o : Coded). o.code) c.outcome.ensures)
+returns c = did (sym c.is_store.ensures ∙ c.if-not-is_store.false) (c.change.ensures [] [] no_bytes) (read_back (omega arith) ∙ ap (λ (o : Coded). o.code) c.outcome.ensures ∙ ap done_code c.numbered-a.ensures)

@@ -15,7 +15,7 @@ look-answer-requires c = (c.requires, sym c.is_store.ensures ∙ c.if-not-is_sto
 
 pub returns : goal.returns
 returns c =
-    let told = c.outcome-o.ensures in
+    let told = rw c.numbered.ensures at c.outcome-o.ensures in
     differs (sym c.is_store.ensures ∙ c.if-not-is_store.false) (c.look-answer.ensures [] no_bytes)
     (read_back (omega arith) ∙ ap (λ (o : Coded). o.code) told)
     (read_back (omega arith) ∙ ap (λ (o : Coded). o.difference) told)

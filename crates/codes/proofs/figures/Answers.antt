@@ -15,6 +15,6 @@ look-a-requires c = (c.requires.0, sym c.is_store.ensures ∙ c.if-not-is_store.
 
 pub returns : goal.returns
 returns c =
-    let told = c.outcome-o.ensures in
+    let told = rw c.numbered.ensures at c.outcome-o.ensures in
     figures (sym c.is_store.ensures ∙ c.if-not-is_store.false) (c.look-a.ensures [] no_bytes)
     (read_back (omega arith) ∙ ap (λ (o : Coded). o.code) told) (ap (λ (o : Coded). o.first) told) (ap (λ (o : Coded). o.second) told)

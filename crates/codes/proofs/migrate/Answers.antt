@@ -5,6 +5,7 @@ use Rattle.records.specs.declared.Edition.{Edition}
 use Rattle.records.specs.Format.{edition1, edition2}
 use Rattle.lent.specs.Lent.{is_of}
 use Rattle.codes.specs.declared.Coded.{Coded}
+use Rattle.codes.specs.Codes.{done_code}
 use Rattle.signed.proofs.Signed.{read_back}
 use Rattle.codes.proofs.DeskCodes.{fitting1, fitting2, no-first, no_second, migrate-code}
 use Rattle.codes.proofs.migrate.Goals.{After-is_store, After-is_store-2}
@@ -40,4 +41,4 @@ pub returns : goal.returns
 returns c =
     let k = goal.at.returns c in
     migrate-code (first-tested k.After-is_store ∙ c.if-not-is_store.false) (second-tested k.After-is_store-2 ∙ c.if-not-is_store-2.false) c.migrate-a.ensures
-    (read_back (omega arith) ∙ ap (λ (o : Coded). o.code) c.outcome.ensures)
+    (read_back (omega arith) ∙ ap (λ (o : Coded). o.code) c.outcome.ensures ∙ ap done_code c.numbered.ensures)

@@ -1,16 +1,23 @@
 -- `edition1::narrow_shares` meets its contract. Assumes nothing.
-use Rattle.std.proofs.Common.{rules, arith, sym, ◌≡◌, ◌∙◌, ◌%◌, length}
-use lib.ListN.{get_or}
+use Rattle.std.proofs.Common.{arith, sym, ◌≡◌, ◌∙◌, length}
 use native.Mathlib.Nat.{mod-eq_of_lt}
-use Rattle.std.proofs.lemmas.Grind.{same_number_lists}
+use Rattle.table.specs.Table.{blank}
+use Rattle.table.proofs.Overlay.{blank-is, overlay-none}
+use Rattle.table.proofs.Turns.{filled_next, filled-all}
 use Rattle.edition1.proofs.narrow_shares.Goals as goal
+
+pub loop-i-init : goal.loop-i-init
+loop-i-init c = λ fit. sym (blank-is 0) ∙ sym (overlay-none c.args.shares (blank 0))
+
+pub loop-i-preserved : goal.loop-i-preserved
+loop-i-preserved c = λ fit.
+    let l = c.args.shares in
+    let i = c.loop-i.i in
+    let n : length l ≡ 512 = c.well_formed.0.1.0.1 in
+    rw (c.loop-i.invariant fit) (filled_next 0 l i _ (omega arith) (omega (arith, n)) (mod-eq_of_lt (fit i)))
 
 pub returns : goal.returns
 returns c = λ fit.
-    let m = c.map.ensures.items in
-    let n : length c.args.shares ≡ 512 = c.well_formed.0.1.0.1 in
-    same_number_lists c.map.result c.args.shares (m.long ∙ sym n)
-    (λ k h.
-    let called = (m.at k 0 0 (omega (arith, n, m.long))).2 in
-    let cut : get_or c.map.result k 0 ≡ get_or c.args.shares k 0 % 4294967296 = search rules in
-    cut ∙ mod-eq_of_lt (fit k))
+    let l = c.args.shares in
+    let n : length l ≡ 512 = c.well_formed.0.1.0.1 in
+    c.loop-i.invariant fit ∙ filled-all 0 l c.loop-i.i (omega (arith, n)) n
